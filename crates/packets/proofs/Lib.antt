@@ -1,0 +1,9 @@
+pub mod FieldLaws
+pub mod RowLaws
+pub mod NumberLaws
+pub mod RefusalLaws
+pub mod FramingLaws
+pub mod GateLaws
+pub mod ReadingLaws
+pub mod WritingLaws
+pub mod RoundTrip

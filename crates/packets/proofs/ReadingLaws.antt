@@ -1,0 +1,154 @@
+-- Laws of gate reading. Assumes nothing.
+use mathlib.Core.Path.{_≡_, refl, sym, ap, _∙_}
+use mathlib.Core.List.{List, _++_}
+use Prim.Native.Nat.{ℕ, zero, suc, _+_, _-_, _*_, _/_, _%_, _≤_, _<_}
+use native.Mathlib.Nat.{zero-add}
+use native.Mathlib.Omega.{arith}
+use borrow.Author.Tests.{lt-ltb, le-ltb, eq-eqb, ne-eqb, ltb-false, eqb-true, not-false}
+use lib.ListN.{length, getD, drop}
+use lib.Seq.{sets, sets-eq}
+use Rattle.packets.specs.Fields.{field}
+use Rattle.packets.specs.Rows.{times, unpack}
+use Rattle.packets.specs.Refusals.{lengthNotForCount, paddingSet, noRoom, refuse, orElse}
+use Rattle.packets.specs.Framing.{lengthOf, headRefusal}
+use Rattle.packets.specs.Gates.{gateType, distanceWidth, gateBytes, gateWidths, gateBits, sizeOf, gateRules, gateRefusal, refusedWith, acceptedWith}
+use Rattle.packets.specs.Reading.{countOf, gatesOf, fieldsRefusal, paddingOf, readRefusal, readAnswer, readInto}
+use Rattle.packets.specs.declared.gates.GatesAnswer.{GatesAnswer}
+use Rattle.packets.proofs.FieldLaws.{field-add, field-lt}
+use Rattle.packets.proofs.RowLaws.{length-unpack, length-times}
+use Rattle.packets.proofs.RefusalLaws.{orElse-first, orElse-then, orElse-stop, orElse-go, refuse-none, accepted, refused}
+use Rattle.packets.proofs.FramingLaws.{Headed, headed}
+use Rattle.packets.proofs.GateLaws.{length-gate}
+
+-- the rules on a gate's bytes in terms of its whole fields
+pub gate-rules-at : (distance : ℕ) (s : List ℕ) (p : ℕ) → 8 ≤ distance
+    → gateRefusal (unpack s p (gateWidths distance))
+    ≡ gateRules (field s (p + distance) 10) (field s (p + (distance + 10)) 3) (field s (p + (distance + 14)) 3) (field s (p + (distance + 18)) 2)
+unfolding gateRefusal unpack gateWidths
+gate-rules-at distance s p h =
+    let q : ℕ = p + (distance - 8) + 8 in
+    let at : (k r w : ℕ) → r ≡ k → field s r w ≡ field s k w = λ k r w e. ap (λ (x : ℕ). field s x w) e in
+    let number : field s q 2 * 256 + field s (q + 2) 8 ≡ field s (p + distance) 10 = sym (field-add s q 2 8) ∙ at (p + distance) q 10 (omega arith) in
+    rw (
+      number,
+      at (p + (distance + 10)) (q + 2 + 8) 3 (omega arith),
+      at (p + (distance + 14)) (q + 2 + 8 + 3 + 1) 3 (omega arith),
+      at (p + (distance + 18)) (q + 2 + 8 + 3 + 1 + 3 + 1) 2 (omega arith),
+    )
+
+-- the two bytes of a distance are its high and its low one
+pub distance-high : (s : List ℕ) (p : ℕ) → getD (unpack s p (gateWidths distanceWidth)) 0 0 ≡ field s p distanceWidth / 256
+unfolding unpack gateWidths
+distance-high s p = omega (arith, field-add s p 7 8, field-lt s (p + 7) 8)
+
+pub distance-low : (s : List ℕ) (p : ℕ) → getD (unpack s p (gateWidths distanceWidth)) 1 0 ≡ field s p distanceWidth % 256
+unfolding unpack gateWidths
+distance-low s p = omega (arith, field-add s p 7 8, field-lt s (p + 7) 8)
+
+-- ---- the walk over the gates, a turn at a time
+
+pub fields-none : (distance : ℕ) (s : List ℕ) (p : ℕ) → fieldsRefusal distance s p 0 ≡ 0
+unfolding fieldsRefusal
+fields-none distance s p = refl
+
+fields-more : (distance : ℕ) (s : List ℕ) (p m : ℕ) → 0 < m
+    → orElse (gateRefusal (unpack s p (gateWidths distance))) (fieldsRefusal distance s (p + gateBits distance) (m - 1)) ≡ fieldsRefusal distance s p m
+unfolding fieldsRefusal
+fields-more distance s p m h =
+    let e : suc (m - 1) ≡ m = omega arith in
+    ap (fieldsRefusal distance s p) e
+
+-- it stops at a gate that is refused, and goes on past one that is not
+pub fields-stop : (distance : ℕ) (s : List ℕ) (p m a : ℕ) → 0 < m → a ≡ gateRefusal (unpack s p (gateWidths distance)) → (a ≡ 0 → ⊥) → a ≡ fieldsRefusal distance s p m
+fields-stop distance s p m a h e ne = e ∙ orElse-stop _ _ (λ z. ne (e ∙ z)) ∙ fields-more distance s p m h
+
+pub fields-go : (distance : ℕ) (s : List ℕ) (p m a : ℕ) → 0 < m → a ≡ gateRefusal (unpack s p (gateWidths distance)) → a ≡ 0
+    → fieldsRefusal distance s (p + gateBits distance) (m - 1) ≡ fieldsRefusal distance s p m
+fields-go distance s p m a h e z = sym (orElse-go _ _ (sym e ∙ z)) ∙ fields-more distance s p m h
+
+-- ---- the order of the rules, a law for each way that it can end
+
+module _ (distance : ℕ) (s : List ℕ) (room : ℕ) where
+  pub bad-head : (a : ℕ) → a ≡ headRefusal s gateType gateType → (a ≡ 0 → ⊥) → a ≡ readRefusal distance s room
+  unfolding readRefusal
+  bad-head a e ne = e ∙ orElse-stop (headRefusal s gateType gateType) _ (λ z. ne (e ∙ z))
+
+  pub bad-length : headRefusal s gateType gateType ≡ 0 → (lengthOf s ≡ sizeOf distance (countOf s) → ⊥) → lengthNotForCount ≡ readRefusal distance s room
+  unfolding readRefusal orElse refuse
+  bad-length h ne = simp (h, ne-eqb (lengthOf s) (sizeOf distance (countOf s)) ne)
+
+  module _ (h : headRefusal s gateType gateType ≡ 0) (l : lengthOf s ≡ sizeOf distance (countOf s)) where
+    pub bad-fields : (a : ℕ) → a ≡ fieldsRefusal distance s 16 (countOf s) → (a ≡ 0 → ⊥) → a ≡ readRefusal distance s room
+    unfolding readRefusal refuse orElse
+    bad-fields a e ne =
+        rw (h, eq-eqb (lengthOf s) (sizeOf distance (countOf s)) l)
+        (e ∙ orElse-stop (fieldsRefusal distance s 16 (countOf s)) _ (λ z. ne (e ∙ z)))
+
+    module _ (f : fieldsRefusal distance s 16 (countOf s) ≡ 0) where
+      pub bad-padding : 0 < paddingOf distance s → paddingSet ≡ readRefusal distance s room
+      unfolding readRefusal orElse refuse
+      bad-padding p = simp (h, eq-eqb (lengthOf s) (sizeOf distance (countOf s)) l, f, lt-ltb 0 (paddingOf distance s) p)
+
+      module _ (p : paddingOf distance s ≤ 0) where
+        pub bad-room : room < gateBytes * countOf s → noRoom ≡ readRefusal distance s room
+        unfolding readRefusal orElse refuse
+        bad-room r =
+            simp (h, eq-eqb (lengthOf s) (sizeOf distance (countOf s)) l, f, le-ltb 0 (paddingOf distance s) p, lt-ltb room (gateBytes * countOf s) r)
+
+        pub may-read : gateBytes * countOf s ≤ room → 0 ≡ readRefusal distance s room
+        unfolding readRefusal orElse refuse
+        may-read r =
+            simp (h, eq-eqb (lengthOf s) (sizeOf distance (countOf s)) l, f, le-ltb 0 (paddingOf distance s) p, le-ltb room (gateBytes * countOf s) r)
+
+-- a gate read that is not refused
+pub record Gated (distance : ℕ) (s : List ℕ) (room : ℕ) : Type 0 where
+  pub head : Headed s gateType gateType
+  pub length-right : lengthOf s ≡ sizeOf distance (countOf s)
+  pub fields : fieldsRefusal distance s 16 (countOf s) ≡ 0
+  pub padding : paddingOf distance s ≡ 0
+  pub fits : gateBytes * countOf s ≤ room
+
+pub gated : (distance : ℕ) (s : List ℕ) (room : ℕ) → readRefusal distance s room ≡ 0 → Gated distance s room
+unfolding readRefusal
+gated distance s room e =
+    let e₁ = orElse-then _ _ e in
+    let e₂ = orElse-then _ _ e₁ in
+    let e₃ = orElse-then _ _ e₂ in
+    let p : paddingOf distance s ≤ 0 = ltb-false _ _ (refuse-none _ _ (orElse-first _ _ e₃)) in
+    record {
+      head = headed s gateType gateType (orElse-first _ _ e);
+      length-right = eqb-true _ _ (not-false _ (refuse-none _ _ (orElse-first _ _ e₁)));
+      fields = orElse-first _ _ e₂;
+      padding = omega arith;
+      fits = ltb-false _ _ (refuse-none _ _ (orElse-then _ _ e₃));
+    }
+
+pub length-gates : (distance : ℕ) (s : List ℕ) → length (gatesOf distance s) ≡ gateBytes * countOf s
+unfolding gatesOf
+length-gates distance s =
+    length-unpack s 16 (times (countOf s) (gateWidths distance)) ∙ length-times (countOf s) (gateWidths distance) gateBytes (length-gate distance)
+
+-- the two ways that a gate read ends
+module _ (s o : List ℕ) where
+  module _ (a : ℕ) (e : a ≡ readRefusal distanceWidth s (length o)) where
+    pub read-refused : (a ≡ 0 → ⊥) → (refusedWith a ≡ readAnswer s o) × (o ≡ readInto s o)
+    unfolding readAnswer readInto
+    read-refused ne =
+        let h : readRefusal distanceWidth s (length o) ≡ 0 → ⊥ = λ z. ne (e ∙ z) in
+        (ap refusedWith e ∙ sym (refused _ _ _ h), sym (refused _ _ _ h))
+
+    pub read-accepted : a ≡ 0 → (n bytes : ℕ) (after : List ℕ) → n ≡ countOf s → bytes ≡ lengthOf s
+        → after ≡ sets o 0 (unpack s 16 (times n (gateWidths distanceWidth)))
+        → (_≡_ {A = GatesAnswer} (record { answer = a; gates = n; bytes = bytes }) (readAnswer s o)) × (after ≡ readInto s o)
+    unfolding readAnswer readInto gatesOf
+    read-accepted z n bytes after en eb ea =
+        let h : readRefusal distanceWidth s (length o) ≡ 0 = sym e ∙ z in
+        let g = gated distanceWidth s (length o) h in
+        let gates : List ℕ = unpack s 16 (times (countOf s) (gateWidths distanceWidth)) in
+        let long : length gates ≡ gateBytes * countOf s = length-gates distanceWidth s in
+        let all : after ≡ gates ++ drop (gateBytes * countOf s) o =
+        ea ∙ ap (λ (m : ℕ). sets o 0 (unpack s 16 (times m (gateWidths distanceWidth)))) en ∙ sets-eq gates o 0 (omega arith)
+        ∙ ap (λ (m : ℕ). gates ++ drop m o) (zero-add (length gates) ∙ long) in
+        let told : _≡_ {A = GatesAnswer} (record { answer = a; gates = n; bytes = bytes }) (acceptedWith (countOf s) (lengthOf s)) =
+        λ i. record { answer = z i; gates = en i; bytes = eb i } in
+        (told ∙ sym (accepted _ _ _ h), all ∙ sym (accepted _ _ _ h))

@@ -1,0 +1,239 @@
+-- One reading: writing what was read gives the sub-packet again, reading what was written gives the list again, and two accepted
+-- sub-packets with the same gates are the same bytes. Assumes nothing.
+use mathlib.Core.Path.{_≡_, refl, sym, ap, ap₂, _∙_, subst}
+use mathlib.Core.List.{List, [], _∷_, _++_}
+use Prim.Native.Nat.{ℕ, zero, suc, _+_, _-_, _*_, _/_, _%_, _^_, _≤_, _<_}
+use native.Mathlib.Nat.{add-zero}
+use native.Mathlib.Omega.{arith}
+use borrow.Author.Tests.{le-ltb, lt-leb, leb-false}
+use lib.ListN.{length, getD, take, drop, length-append, length-drop, take-append-drop}
+use lib.Pow.{pow-pos}
+use lib.Seq.{drop-at, take-at, length-take-le}
+use Rattle.packets.specs.Fields.{field}
+use Rattle.packets.specs.Rows.{total, times, unpack, pack}
+use Rattle.packets.specs.Refusals.{refuse, orElse}
+use Rattle.packets.specs.Framing.{typeOf, lengthOf, headRefusal}
+use Rattle.packets.specs.Gates.{gateType, distanceWidth, mostGates, gateBytes, gateWidths, gateBits, bitsOf, sizeOf, paddingBits, gateRefusal}
+use Rattle.packets.specs.Reading.{countOf, gatesOf, fieldsRefusal, paddingOf, readRefusal}
+use Rattle.packets.specs.Writing.{gatesIn, packetWidths, packetValues, written, widthsRefusal, firstRefusal, listRefusal, writeRefusal}
+use Rattle.packets.proofs.FieldLaws.{Bytes, field-lt}
+use Rattle.packets.proofs.RowLaws.{Fit, none, one, unpack-append, unpack-pack, length-unpack, length-times, length-pack, times-suc, round-trip, pack-past}
+use Rattle.packets.proofs.RefusalLaws.{orElse-first, orElse-then, orElse-go, refuse-none}
+use Rattle.packets.proofs.GateLaws.{length-gate, total-gate, bits-gates}
+use Rattle.packets.proofs.ReadingLaws.{Gated, gated, length-gates, may-read}
+use Rattle.packets.proofs.WritingLaws.{Listed, listed, total-packet, may-write}
+
+-- ---- writing what was read
+
+-- an accepted sub-packet is the row of its values
+values-read : (distance : ℕ) (s : List ℕ) (room : ℕ) → 8 ≤ distance → Gated distance s room
+    → unpack s 0 (packetWidths distance (countOf s)) ≡ packetValues distance (countOf s) (gatesOf distance s)
+unfolding packetWidths packetValues gatesOf unpack
+values-read distance s room h g =
+    let n : ℕ = countOf s in
+    let ws : List ℕ = times n (gateWidths distance) in
+    let w : ℕ = paddingBits distance n in
+    let three : typeOf s ≡ gateType = omega arith in
+    let pad : field s (16 + total ws) w ≡ 0 = ap (λ (p : ℕ). field s p w) (bits-gates distance n h) ∙ g .padding in
+    let rest : unpack s 16 (ws ++ (w ∷ [])) ≡ unpack s 16 ws ++ (0 ∷ []) =
+    unpack-append s 16 ws (w ∷ []) ∙ ap (λ (v : ℕ). unpack s 16 ws ++ (v ∷ [])) pad in
+    λ i. three i ∷ g .length-right i ∷ n ∷ rest i
+
+count-gates : (distance : ℕ) (s : List ℕ) → gatesIn (gatesOf distance s) ≡ countOf s
+count-gates distance s = omega (arith, length-gates distance s)
+
+-- WRITING WHAT WAS READ gives the sub-packet again
+pub write-read : (distance : ℕ) (s o : List ℕ) (room : ℕ) → 8 ≤ distance → Bytes s → Bytes o → readRefusal distance s room ≡ 0
+    → lengthOf s ≤ length o → take (lengthOf s) (written distance (gatesOf distance s) o) ≡ take (lengthOf s) s
+unfolding written
+write-read distance s o room h hs ho e fits =
+    let g = gated distance s room e in
+    let n : ℕ = countOf s in
+    let whole : total (packetWidths distance n) ≡ 8 * lengthOf s = total-packet distance n h ∙ ap (λ (k : ℕ). 8 * k) (sym (g .length-right)) in
+    rw (count-gates distance s, ← values-read distance s room h g)
+    (round-trip o s (lengthOf s) (packetWidths distance n) ho hs whole fits (g .head .whole))
+
+-- bytes past the output stay
+pub written-past : (distance : ℕ) (list o : List ℕ) → 8 ≤ distance → Bytes o
+    → drop (sizeOf distance (gatesIn list)) (written distance list o) ≡ drop (sizeOf distance (gatesIn list)) o
+unfolding written
+written-past distance list o h ho = pack-past o (sizeOf distance (gatesIn list)) _ _ ho (total-packet distance (gatesIn list) h)
+
+widths-read : (s : List ℕ) (p : ℕ) (ws more : List ℕ) → widthsRefusal ws (unpack s p ws ++ more) ≡ 0
+unfolding widthsRefusal unpack orElse refuse
+widths-read s p [] more = refl
+widths-read s p (w ∷ ws) more = simp (lt-leb (2 ^ w) (field s p w) (field-lt s p w)) (widths-read s (p + w) ws more)
+
+rules-read : (distance : ℕ) (s : List ℕ) (p : ℕ) (more : List ℕ)
+    → gateRefusal (unpack s p (gateWidths distance) ++ more) ≡ gateRefusal (unpack s p (gateWidths distance))
+unfolding gateRefusal unpack gateWidths
+rules-read distance s p more = refl
+
+first-read : (distance : ℕ) (s : List ℕ) (p : ℕ) (more : List ℕ)
+    → firstRefusal distance (unpack s p (gateWidths distance) ++ more) ≡ gateRefusal (unpack s p (gateWidths distance))
+unfolding firstRefusal
+first-read distance s p more = orElse-go _ _ (widths-read s p (gateWidths distance) more) ∙ rules-read distance s p more
+
+list-read : (distance : ℕ) (s : List ℕ) (p n : ℕ) → 8 ≤ distance
+    → listRefusal distance (unpack s p (times n (gateWidths distance))) n ≡ fieldsRefusal distance s p n
+unfolding listRefusal fieldsRefusal
+list-read distance s p zero h = refl
+list-read distance s p (suc n) h =
+    let ws : List ℕ = gateWidths distance in
+    let more : List ℕ = unpack s (p + gateBits distance) (times n ws) in
+    let e : unpack s p (times (suc n) ws) ≡ unpack s p ws ++ more =
+    ap (unpack s p) (times-suc n ws) ∙ unpack-append s p ws (times n ws)
+    ∙ ap (λ (t : ℕ). unpack s p ws ++ unpack s (p + t) (times n ws)) (total-gate distance h) in
+    rw e
+    (ap₂ orElse (first-read distance s p more)
+    (ap (λ (l : List ℕ). listRefusal distance l n) (drop-at (unpack s p ws) more 9 (length-unpack s p ws ∙ length-gate distance))
+    ∙ list-read distance s (p + gateBits distance) n h))
+
+-- the gates that a sub-packet has get the same refusal outside as inside
+gates-read : (distance : ℕ) (s : List ℕ) → 8 ≤ distance → listRefusal distance (gatesOf distance s) (countOf s) ≡ fieldsRefusal distance s 16 (countOf s)
+unfolding gatesOf
+gates-read distance s h = list-read distance s 16 (countOf s) h
+
+-- and the writer takes what was read, given room
+pub write-accepts : (s : List ℕ) (room more : ℕ) → readRefusal distanceWidth s room ≡ 0 → lengthOf s ≤ more
+    → writeRefusal distanceWidth mostGates (gatesOf distanceWidth s) more ≡ 0
+write-accepts s room more e fits =
+    let d : ℕ = distanceWidth in
+    let g = gated d s room e in
+    let list : List ℕ = gatesOf d s in
+    let en : gatesIn list ≡ countOf s = count-gates d s in
+    let right : listRefusal d list (gatesIn list) ≡ 0 = ap (listRefusal d list) en ∙ gates-read d s (omega arith) ∙ g .fields in
+    let size : sizeOf d (gatesIn list) ≡ lengthOf s = ap (sizeOf d) en ∙ sym (g .length-right) in
+    sym
+    (may-write d mostGates list more (omega (arith, length-gates d s)) (omega (arith, field-lt s 4 7)) right
+    (subst (λ (n : ℕ). n ≤ more) (sym size) fits))
+
+-- ---- reading what was written
+
+fit-append : {ws xs bs ys : List ℕ} → Fit ws xs → Fit bs ys → Fit (ws ++ bs) (xs ++ ys)
+fit-append none g = g
+fit-append (one h f) g = one h (fit-append f g)
+
+-- the first bytes of a list that pass the widths fit them
+fit-widths : (ws list : List ℕ) → length ws ≤ length list → widthsRefusal ws list ≡ 0 → Fit ws (take (length ws) list)
+unfolding widthsRefusal
+fit-widths [] list l e = none
+fit-widths (w ∷ ws) [] l e = absurd (omega arith)
+fit-widths (w ∷ ws) (x ∷ list) l e =
+    one (leb-false _ _ (refuse-none _ _ (orElse-first _ _ e))) (fit-widths ws list (omega arith) (orElse-then _ _ e))
+
+-- the gates of a list that is not refused fit their fields
+fit-gates : (distance : ℕ) (list : List ℕ) (n : ℕ) → length list ≡ gateBytes * n → listRefusal distance list n ≡ 0
+    → Fit (times n (gateWidths distance)) list
+unfolding listRefusal firstRefusal times
+fit-gates distance [] zero l e = none
+fit-gates distance (x ∷ list) zero l e = absurd (omega arith)
+fit-gates distance list (suc n) l e =
+    let ws : List ℕ = gateWidths distance in
+    let nine : length ws ≡ 9 = length-gate distance in
+    let here : Fit ws (take (length ws) list) =
+    fit-widths ws list (omega arith) (orElse-first _ _ (orElse-first _ _ e)) in
+    let rest : Fit (times n ws) (drop 9 list) =
+    fit-gates distance (drop 9 list) n (length-drop 9 list ∙ omega arith) (orElse-then _ _ e) in
+    subst (Fit (ws ++ times n ws)) (ap (λ (k : ℕ). take k list ++ drop 9 list) nine ∙ take-append-drop 9 list) (fit-append here rest)
+
+-- a written sub-packet is the row of its values
+values-written : (list o : List ℕ) → Listed distanceWidth mostGates list (length o)
+    → unpack (written distanceWidth list o) 0 (packetWidths distanceWidth (gatesIn list)) ≡ packetValues distanceWidth (gatesIn list) list
+unfolding written packetWidths packetValues
+values-written list o g =
+    let d : ℕ = distanceWidth in
+    let n : ℕ = gatesIn list in
+    let body : Fit (times n (gateWidths d)) list = fit-gates d list n (omega arith) (g .right) in
+    unpack-pack o 0
+    (one (omega arith) (one (omega arith) (one (omega arith) (fit-append body (one (pow-pos (paddingBits d n)) none)))))
+    (omega (arith, total-packet d n (omega arith)))
+
+-- a list that ends in one more value, taken apart
+snoc-parts : (xs ys : List ℕ) (x y : ℕ) → length xs ≡ length ys → xs ++ (x ∷ []) ≡ ys ++ (y ∷ []) → (xs ≡ ys) × (x ≡ y)
+snoc-parts [] [] x y l e = (refl, (cc))
+snoc-parts [] (b ∷ ys) x y l e = absurd (omega arith)
+snoc-parts (a ∷ xs) [] x y l e = absurd (omega arith)
+snoc-parts (a ∷ xs) (b ∷ ys) x y l e =
+    let r : (xs ≡ ys) × (x ≡ y) = snoc-parts xs ys x y (omega arith) (cc) in
+    (ap₂ (λ (c : ℕ) (cs : List ℕ). c ∷ cs) (cc) (r .0), r .1)
+
+-- what a written sub-packet says
+pub record Wrote (list s : List ℕ) : Type 0 where
+  pub typed : typeOf s ≡ gateType
+  pub sized : lengthOf s ≡ sizeOf distanceWidth (gatesIn list)
+  pub counted : countOf s ≡ gatesIn list
+  pub gates : gatesOf distanceWidth s ≡ list
+  pub padded : paddingOf distanceWidth s ≡ 0
+
+wrote-parts : (list s : List ℕ) → length list ≡ gateBytes * gatesIn list
+    → unpack s 0 (packetWidths distanceWidth (gatesIn list)) ≡ packetValues distanceWidth (gatesIn list) list → Wrote list s
+unfolding packetWidths packetValues unpack gatesOf
+wrote-parts list s whole e =
+    let d : ℕ = distanceWidth in
+    let n : ℕ = gatesIn list in
+    let ws : List ℕ = times n (gateWidths d) in
+    let w : ℕ = paddingBits d n in
+    let en : countOf s ≡ n = cc in
+    let rest : unpack s 16 (ws ++ (w ∷ [])) ≡ list ++ (0 ∷ []) = cc in
+    let both : unpack s 16 ws ++ (field s (16 + total ws) w ∷ []) ≡ list ++ (0 ∷ []) = sym (unpack-append s 16 ws (w ∷ [])) ∙ rest in
+    let long : length (unpack s 16 ws) ≡ length list = length-unpack s 16 ws ∙ length-times n (gateWidths d) gateBytes (length-gate d) ∙ sym whole in
+    let parts = snoc-parts (unpack s 16 ws) list (field s (16 + total ws) w) 0 long both in
+    record {
+      typed = cc;
+      sized = cc;
+      counted = en;
+      gates = ap (λ (k : ℕ). unpack s 16 (times k (gateWidths d))) en ∙ parts .0;
+      padded = ap (λ (k : ℕ). field s (bitsOf d k) (paddingBits d k)) en ∙ ap (λ (p : ℕ). field s p w) (sym (bits-gates d n (omega arith))) ∙ parts .1;
+    }
+
+-- READING WHAT WAS WRITTEN gives the list again
+pub wrote : (list o : List ℕ) → writeRefusal distanceWidth mostGates list (length o) ≡ 0 → Wrote list (written distanceWidth list o)
+wrote list o e =
+    let g = listed distanceWidth mostGates list (length o) e in
+    wrote-parts list (written distanceWidth list o) (omega arith) (values-written list o g)
+
+head-accepted : (s : List ℕ) → 2 ≤ length s → typeOf s ≡ gateType → 2 ≤ lengthOf s → lengthOf s ≤ length s → headRefusal s gateType gateType ≡ 0
+unfolding headRefusal orElse refuse
+head-accepted s two three long whole =
+    simp (
+      le-ltb (length s) 2 two,
+      three,
+      le-ltb (lengthOf s) 2 long,
+      le-ltb (length s) (lengthOf s) whole,
+    )
+
+length-written : (list o : List ℕ) → length (written distanceWidth list o) ≡ length o
+unfolding written
+length-written list o = length-pack o 0 _ _
+
+-- and the reader takes whatever the writer wrote, given room
+pub read-accepts : (list o : List ℕ) (room : ℕ) → writeRefusal distanceWidth mostGates list (length o) ≡ 0 → length list ≤ room
+    → readRefusal distanceWidth (written distanceWidth list o) room ≡ 0
+read-accepts list o room e fits =
+    let d : ℕ = distanceWidth in
+    let s : List ℕ = written d list o in
+    let g = listed d mostGates list (length o) e in
+    let w = wrote list o e in
+    let long : length s ≡ length o = length-written list o in
+    let fields : fieldsRefusal d s 16 (countOf s) ≡ 0 =
+    sym (gates-read d s (omega arith)) ∙ ap₂ (listRefusal d) (w .gates) (w .counted) ∙ g .right in
+    sym
+    (may-read d s room
+    (head-accepted s (omega arith) (w .typed) (omega arith) (omega arith))
+    (w .sized ∙ ap (sizeOf d) (sym (w .counted)))
+    fields
+    (omega arith)
+    (omega arith))
+
+-- so TWO ACCEPTED SUB-PACKETS with the same gates are the same bytes
+pub one-reading : (s t : List ℕ) (room more : ℕ) → Bytes s → Bytes t → readRefusal distanceWidth s room ≡ 0 → readRefusal distanceWidth t more ≡ 0
+    → gatesOf distanceWidth s ≡ gatesOf distanceWidth t → take (lengthOf s) s ≡ take (lengthOf t) t
+one-reading s t room more hs ht es et same =
+    let d : ℕ = distanceWidth in
+    let g = gated d s room es in
+    let count : countOf s ≡ countOf t = sym (count-gates d s) ∙ ap gatesIn same ∙ count-gates d t in
+    let size : lengthOf s ≡ lengthOf t = g .length-right ∙ ap (sizeOf d) count ∙ sym (gated d t more et .length-right) in
+    sym (write-read d s s room (omega arith) hs hs es (g .head .whole))
+    ∙ ap₂ (λ (n : ℕ) (list : List ℕ). take n (written d list s)) size same
+    ∙ write-read d t s more (omega arith) ht hs et (subst (λ (n : ℕ). n ≤ length s) size (g .head .whole))

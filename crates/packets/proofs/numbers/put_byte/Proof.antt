@@ -1,0 +1,21 @@
+-- `packets::numbers::put_byte` meets its contract. Assumes nothing.
+use Prim.Native.Nat.{ℕ}
+use mathlib.Core.Path.{sym, ap, _∙_}
+use lib.ListN.{set}
+use Rattle.packets.proofs.FieldLaws.{put-byte}
+use Rattle.packets.proofs.NumberLaws.{number-put-past}
+use borrow.Author.Needs.{needs}
+use Rattle.packets.proofs.numbers.put_byte.Statement.{statement}
+use Rattle.packets.proofs.numbers.put_byte.Tie as tie
+
+returns : tie.Need-returns
+returns c = let d = c .before .before in
+    let a = d .before .args in
+    ap (set (a .out .now) (a .i)) (c .low-byte .ensures) ∙ sym (put-byte (a .out .now) (a .i) (a .x) (λ i. d .slice-known .given i .fits) (c .before .if1 .taken))
+
+pub put-byte-spec : {M : Type 1} → statement M
+put-byte-spec =
+    tie.close
+    (tie.spec
+    (λ c κs. search needs) (λ c. search needs) (λ c. search needs) returns
+    (λ c. sym (number-put-past 1 _ _ _ (c .if1 .left))))

@@ -1,0 +1,26 @@
+-- `packets::numbers::word_at` meets its contract: two numbers side by side. Assumes nothing.
+use Prim.Native.Nat.{ℕ, _+_, _*_}
+use mathlib.Core.Path.{sym, ap₂, _∙_}
+use native.Mathlib.Omega.{arith}
+use Rattle.packets.proofs.NumberLaws.{number-split, number-past, number-lt}
+use borrow.Author.Needs.{needs}
+use Rattle.packets.proofs.numbers.word_at.Statement.{statement}
+use Rattle.packets.proofs.numbers.word_at.Tie as tie
+
+mul-result : tie.Need-mul-result
+mul-result c = omega (arith, number-lt 2 (c .before .before .before .args .s .now) (c .before .before .before .args .i))
+
+add-result : tie.Need-add-result
+add-result c = let a = c .before .before .before .before .args in
+    omega (arith, number-lt 2 (a .s .now) (a .i), number-lt 2 (a .s .now) (a .i + 2))
+
+returns : tie.Need-returns
+returns c = let a = c .before .before .before .before .args in
+    ap₂ (λ (x y : ℕ). x * 65536 + y) (c .before .half-at .ensures) (c .half-at2 .ensures) ∙ sym (number-split (a .s .now) (a .i) 2 2)
+
+pub word-at-spec : {M : Type 1} → statement M
+word-at-spec =
+    tie.close
+    (tie.spec
+    (λ c κs. search needs) mul-result (λ c. search needs) (λ c κs. search needs) add-result returns
+    (λ c. sym (number-past 4 _ _ (c .if1 .left))))

@@ -1,0 +1,64 @@
+// Numbers of 1, 2 and 4 bytes that start at byte i, high byte first, read and put directly. A byte past the end reads as 0, and one that
+// would be put there is dropped.
+use crate::fields;
+ghost use mathlib.Core.Path.{_≡_};
+ghost use Prim.Native.Nat.{_%_};
+ghost use Rattle.packets.specs.Numbers.{numberAt, putNumber};
+
+pub fn byte_at(s: &[u8], i: usize) -> u32
+    ensures { λ r. ⌜ r ≡ numberAt 1 (now (s .entry)) i ⌝ }
+{
+    if i < s.len() { fields::wide(s[i]) } else { 0 }
+}
+
+pub fn half_at(s: &[u8], i: usize) -> u32
+    ensures { λ r. ⌜ r ≡ numberAt 2 (now (s .entry)) i ⌝ }
+{
+    if i < s.len() {
+        byte_at(s, i) * 256 + byte_at(s, i + 1)
+    } else {
+        0
+    }
+}
+
+pub fn word_at(s: &[u8], i: usize) -> u32
+    ensures { λ r. ⌜ r ≡ numberAt 4 (now (s .entry)) i ⌝ }
+{
+    if i < s.len() {
+        half_at(s, i) * 65536 + half_at(s, i + 2)
+    } else {
+        0
+    }
+}
+
+fn low_byte(x: u32) -> u8
+    ensures { λ r. ⌜ r ≡ x % 256 ⌝ }
+{
+    (x % 256) as u8
+}
+
+pub fn put_byte(out: &mut [u8], i: usize, x: u32)
+    ensures { λ _. ⌜ now (out .exit) ≡ putNumber 1 (now (out .entry)) i x ⌝ }
+{
+    if i < out.len() {
+        out[i] = low_byte(x);
+    }
+}
+
+pub fn put_half(out: &mut [u8], i: usize, x: u32)
+    ensures { λ _. ⌜ now (out .exit) ≡ putNumber 2 (now (out .entry)) i x ⌝ }
+{
+    if i < out.len() {
+        put_byte(out, i + 1, x);
+        put_byte(out, i, x / 256);
+    }
+}
+
+pub fn put_word(out: &mut [u8], i: usize, x: u32)
+    ensures { λ _. ⌜ now (out .exit) ≡ putNumber 4 (now (out .entry)) i x ⌝ }
+{
+    if i < out.len() {
+        put_half(out, i + 2, x);
+        put_half(out, i, x / 65536);
+    }
+}
