@@ -1,0 +1,119 @@
+// Runs the packet layer's public functions on the cases that standard input holds, and prints a line for each.
+// A case: a kind (1 framing, 2 gates read, 3 gates written), the output's room and the input's length (2 bytes each), and the input.
+// A line: kind, answer, gates, bytes, and the whole output afterwards, which held AA before. Framing prints the sub-packet's length and the
+// sub-packet.
+use libc::STDIN_FILENO;
+use libc::STDOUT_FILENO;
+use packets::framing;
+use packets::gates::GatesAnswer;
+use packets::numbers;
+use packets::reading;
+use packets::writing;
+ghost use mathlib.Core.Path.{_≡_};
+ghost use Prim.Native.Nat.{_<_, _≤_};
+ghost use lib.ListN.{length};
+
+const HEADER: usize = 5;
+
+const MOST_ROOM: usize = 300;
+
+fn print_number(n: usize) {
+    io::print_decimal(STDOUT_FILENO, n as u64);
+    io::write_all(STDOUT_FILENO, b" ");
+}
+
+fn print_bytes(s: &[u8]) {
+    let mut i = 0;
+    while i < s.len() {
+        io::print_hex(STDOUT_FILENO, numbers::byte_at(s, i) as u64, 2);
+        i += 1;
+    }
+}
+
+fn end_line() {
+    io::write_all(STDOUT_FILENO, b"\n");
+}
+
+fn print_answer(kind: usize, a: GatesAnswer) {
+    print_number(kind);
+    print_number(a.answer as usize);
+    print_number(a.gates);
+    print_number(a.bytes);
+}
+
+fn run_frame(s: &[u8]) {
+    let sub = framing::frame(s);
+    print_answer(
+        1,
+        GatesAnswer {
+            answer: framing::frame_refusal(s),
+            gates: 0,
+            bytes: sub.len(),
+        },
+    );
+    print_bytes(sub);
+    end_line();
+}
+
+fn run_read(s: &[u8], out: &mut [u8]) {
+    let a = reading::read_gates(s, out);
+    print_answer(2, a);
+    print_bytes(out);
+    end_line();
+}
+
+fn run_write(s: &[u8], out: &mut [u8]) {
+    let a = writing::write_gates(s, out);
+    print_answer(3, a);
+    print_bytes(out);
+    end_line();
+}
+
+fn fresh_output() -> [u8; 300]
+    ensures { λ r. ⌜ 300 ≡ length r ⌝ }
+{
+    [0xAA; 300]
+}
+
+fn at_most(n: usize, most: usize) -> usize
+    ensures { λ r. ⌜ (r ≤ n) × (r ≤ most) ⌝ }
+{
+    if n < most { n } else { most }
+}
+
+fn small(n: u32) -> usize
+    ensures { λ r. ⌜ r < 65536 ⌝ }
+{
+    (n % 65536) as usize
+}
+
+// Runs the case that `s` begins with, and answers where the next one starts.
+fn run_case(s: &[u8]) -> usize
+    ensures { λ r. ⌜ (0 < r) × (r ≤ 65540) ⌝ }
+{
+    let next = HEADER + small(numbers::half_at(s, 3));
+    let end = at_most(next, s.len());
+    let start = at_most(HEADER, end);
+    let room = at_most(small(numbers::half_at(s, 1)), MOST_ROOM);
+    let mut out = fresh_output();
+    let kind = numbers::byte_at(s, 0);
+    match kind {
+        1 => run_frame(&s[start..end]),
+        2 => run_read(&s[start..end], &mut out[..room]),
+        _ => run_write(&s[start..end], &mut out[..room]),
+    }
+    next
+}
+
+fn run_all(s: &[u8]) {
+    let mut at = 0;
+    while at < s.len() {
+        at += run_case(&s[at..]);
+    }
+}
+
+fn main() {
+    let mut input = io::large_buffer();
+    let n = io::read_full(STDIN_FILENO, &mut input);
+    run_all(&input[..n]);
+}
