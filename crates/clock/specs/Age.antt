@@ -1,0 +1,68 @@
+-- The age of a frame and the conditions that hang on it (document 01, "Frame age"). Assumes nothing.
+use mathlib.Core.Bool.{Bool, cond, _||_}
+use Prim.Native.Nat.{ℕ, _-_, _/_}
+use lib.Dec.{leb, ltb}
+use Rattle.clock.specs.declared.FrameAge.{FrameAge}
+
+-- frame numbers run from 1 to this one
+abbrev pub lastFrame : ℕ
+lastFrame = 86_400
+
+-- ground of refusal: no frame has this number
+unfoldable pub notAFrame : ℕ → Bool
+notAFrame n = ltb n 1 || ltb lastFrame n
+
+-- ground of refusal: the station's number is below the onboard one, so that they have no difference
+unfoldable pub stationBelow : ℕ → ℕ → Bool
+stationBelow station onboard = ltb station onboard
+
+-- how many frames the station's number is ahead of the onboard one
+unfoldable pub difference : ℕ → ℕ → ℕ
+difference station onboard = station - onboard
+
+-- the age is half the difference, rounded down
+unfoldable pub ageOf : ℕ → ℕ → ℕ
+ageOf station onboard = difference station onboard / 2
+
+-- the frame part of condition 24: an age of 0 or 1
+abbrev pub condition24 : ℕ → Bool
+condition24 age = leb age 1
+
+-- condition 26: an age over 14
+abbrev pub condition26 : ℕ → Bool
+condition26 age = ltb 14 age
+
+-- condition 27: an age under 5
+abbrev pub condition27 : ℕ → Bool
+condition27 age = ltb age 5
+
+-- a condition in an answer: 1 where it holds, 0 where it does not
+unfoldable pub flagOf : Bool → ℕ
+flagOf b = cond b 1 0
+
+-- the answer for an age
+unfoldable pub aged : ℕ → FrameAge
+aged age =
+    record {
+      answer = 0;
+      age = age;
+      condition24 = flagOf (condition24 age);
+      condition26 = flagOf (condition26 age);
+      condition27 = flagOf (condition27 age);
+    }
+
+-- the answer's number on each ground of refusal
+abbrev pub outOfRange : ℕ
+outOfRange = 17
+
+-- a refusal has zeros for its numbers
+abbrev pub refused : FrameAge
+refused = record { answer = outOfRange; age = 0; condition24 = 0; condition26 = 0; condition27 = 0 }
+
+-- the grounds of refusal together
+unfoldable pub refuses : ℕ → ℕ → Bool
+refuses station onboard = notAFrame station || (notAFrame onboard || stationBelow station onboard)
+
+-- the frame age, for any two numbers
+unfoldable pub frameAge : ℕ → ℕ → FrameAge
+frameAge station onboard = cond (refuses station onboard) refused (aged (ageOf station onboard))

@@ -1,0 +1,84 @@
+// The frame age (document 01, "Frame age"), and whether the conditions that hang on it hold.
+ghost use mathlib.Core.Path.{_≡_};
+ghost use mathlib.Core.Bool.{false};
+ghost use Rattle.clock.specs.Age.{notAFrame, refuses, difference, flagOf, aged, frameAge};
+
+const LAST_FRAME: u32 = 86_400;
+
+const OUT_OF_RANGE: u32 = 17;
+
+// The conditions are 1 where they hold; of condition 24 this is the part that looks at the frames.
+#[repr(C)]
+pub struct FrameAge {
+    pub answer: u32,
+    pub age: u32,
+    pub condition24: u32,
+    pub condition26: u32,
+    pub condition27: u32,
+}
+
+fn is_no_frame(n: u32) -> bool
+    ensures { λ r. ⌜ r ≡ notAFrame n ⌝ }
+{
+    if n < 1 {
+        return true;
+    }
+    LAST_FRAME < n
+}
+
+fn is_refused(station: u32, onboard: u32) -> bool
+    ensures { λ r. ⌜ r ≡ refuses station onboard ⌝ }
+{
+    if is_no_frame(station) {
+        return true;
+    }
+    if is_no_frame(onboard) {
+        return true;
+    }
+    station < onboard
+}
+
+fn difference(station: u32, onboard: u32) -> u32
+    requires { ⌜ refuses station onboard ≡ false ⌝ }
+    ensures { λ r. ⌜ r ≡ difference station onboard ⌝ }
+{
+    station - onboard
+}
+
+fn flag_of(holds: bool) -> u32
+    ensures { λ r. ⌜ r ≡ flagOf holds ⌝ }
+{
+    if holds {
+        return 1;
+    }
+    0
+}
+
+// The answer for an age.
+fn answer_for(age: u32) -> FrameAge
+    ensures { λ r. ⌜ r ≡ aged age ⌝ }
+{
+    FrameAge {
+        answer: 0,
+        age,
+        condition24: flag_of(age <= 1),
+        condition26: flag_of(14 < age),
+        condition27: flag_of(age < 5),
+    }
+}
+
+// The age of the onboard frame by the station's, refused where either is no frame's number or the station's is the lower one.
+pub fn frame_age(station: u32, onboard: u32) -> FrameAge
+    ensures { λ r. ⌜ r ≡ frameAge station onboard ⌝ }
+{
+    if is_refused(station, onboard) {
+        return FrameAge {
+            answer: OUT_OF_RANGE,
+            age: 0,
+            condition24: 0,
+            condition26: 0,
+            condition27: 0,
+        };
+    }
+    answer_for(difference(station, onboard) / 2)
+}

@@ -1,0 +1,144 @@
+-- How the code holds the table: a row for each transition, the rows of a mode together.
+-- Assumes nothing.
+use mathlib.Core.Path.{_≡_, refl, ap, _∙_, sym}
+use mathlib.Core.Bool.{Bool, true, _&&_}
+use mathlib.Core.List.{List, [], _∷_, map}
+use Prim.Native.Nat.{ℕ, zero, suc, _+_, _≤_, _<_}
+use native.Mathlib.Numerals.{add-one}
+use native.Mathlib.Omega.{arith}
+use lib.Dec.{leb}
+use lib.ListN.{length, getD, drop, List·getD-map}
+use lib.Seq.{slice}
+use borrow.Author.Tests.{leb-true}
+use Rattle.modes.specs.Names.{IS}
+use Rattle.modes.specs.Table.{Transition, transitionCount, table}
+use Rattle.modes.specs.Next.{those, leavesFrom}
+use Rattle.modes.specs.Rows.{rowWidth, rowOf, tableRows, firstOf, stated, known, IsRow}
+use Rattle.modes.proofs.Scanning.{both-left, both-right}
+use Rattle.modes.proofs.Checked.{table-checked}
+
+-- two functions that agree on each entry of a list, as is computed once, agree at every place of it
+same-at : {A B : Type 0} (f g : A → B) (xs : List A) (d : A) → map f xs ≡ map g xs → f d ≡ g d → (k : ℕ) → f (getD xs k d) ≡ g (getD xs k d)
+same-at f g xs d e z k = sym (List·getD-map f xs k d) ∙ ap (λ l. getD l k (f d)) e ∙ ap (getD (map g xs) k) z ∙ List·getD-map g xs k d
+
+-- the modes' numbers, with 0 before and one more behind
+abbrev numbers : ℕ → ℕ → List ℕ
+numbers i zero = []
+numbers i (suc n) = i ∷ numbers (suc i) n
+
+number-at : (i n k : ℕ) → k < n → getD (numbers i n) k 0 ≡ i + k
+number-at i zero k h = absurd (omega arith)
+number-at i (suc n) zero h = omega arith
+number-at i (suc n) (suc k) h = number-at (suc i) n k (omega arith) ∙ omega arith
+
+abbrev modes : List ℕ
+modes = numbers 0 15
+
+mode-at : (m : ℕ) → m ≤ IS + 1 → getD modes m 0 ≡ m
+mode-at m h = omega (arith, number-at 0 15 m (omega arith))
+
+-- where the rows of each mode start
+unfoldable pub firsts : List ℕ
+firsts = map firstOf modes
+
+first-none : firstOf 0 ≡ 0
+unfolding firstOf table
+first-none = refl
+
+pub first-at : (starts : List ℕ) → starts ≡ firsts → (m : ℕ) → m ≤ IS + 1 → getD starts m 0 ≡ firstOf m
+unfolding firsts
+first-at starts e m h =
+    ap (λ (l : List ℕ). getD l m 0) e
+    ∙ ap (getD (map firstOf modes) m) (sym first-none)
+    ∙ List·getD-map firstOf modes m 0
+    ∙ ap firstOf (mode-at m h)
+
+-- the starts do not fall, and lie in the table
+unfoldable placed : ℕ → Bool
+placed m = leb (firstOf m) (firstOf (suc m)) && leb (firstOf m) transitionCount
+
+all-placed : map placed modes ≡ map (λ _. true) modes
+unfolding placed firstOf table
+all-placed = refl
+
+none-placed : placed 0 ≡ true
+unfolding placed firstOf table
+none-placed = refl
+
+placed-at : (m : ℕ) → m ≤ IS + 1 → (leb (firstOf m) (firstOf (suc m)) && leb (firstOf m) transitionCount) ≡ true
+unfolding placed
+placed-at m h = ap placed (sym (mode-at m h)) ∙ same-at placed (λ _. true) modes 0 all-placed none-placed m
+
+pub starts-rise : (m : ℕ) → m ≤ IS → firstOf m ≤ firstOf (m + 1)
+starts-rise m h =
+    rw (add-one m)
+    (leb-true (firstOf m) (firstOf (suc m)) (both-left (leb (firstOf m) (firstOf (suc m))) (leb (firstOf m) transitionCount) (placed-at m (omega arith))))
+
+pub starts-in : (m : ℕ) → m ≤ IS + 1 → firstOf m ≤ transitionCount
+starts-in m h = leb-true (firstOf m) transitionCount (both-right (leb (firstOf m) (firstOf (suc m))) (leb (firstOf m) transitionCount) (placed-at m h))
+
+-- between two starts stand the transitions of a mode
+abbrev leaving : ℕ → List Transition
+leaving m = those (leavesFrom m) table
+
+abbrev stretch : ℕ → List Transition
+stretch m = slice (firstOf m) (firstOf (suc m)) table
+
+lines : map leaving modes ≡ map stretch modes
+unfolding firstOf table
+lines = refl
+
+line-none : leaving 0 ≡ stretch 0
+unfolding firstOf table
+line-none = refl
+
+pub line : (m : ℕ) → m ≤ IS → those (leavesFrom m) table ≡ slice (firstOf m) (firstOf (m + 1)) table
+line m h =
+    let e = mode-at m (omega arith) in
+    ap leaving (sym e) ∙ same-at leaving stretch modes 0 lines line-none m ∙ ap stretch e ∙ ap (λ n. slice (firstOf m) (firstOf n) table) (sym (add-one m))
+
+-- no transition, for the places that the table does not have
+abbrev pub nowhere : Transition
+nowhere = record { leaves = 0; target = 0; conditions = []; priority = 0 }
+
+-- transition t of the table, counted from 0
+abbrev pub transitionAt : ℕ → Transition
+transitionAt t = getD table t nowhere
+
+map-at : (f : Transition → List ℕ) (xs : List Transition) (t : ℕ) → t < length xs → getD (map f xs) t [] ≡ f (getD xs t nowhere)
+map-at f [] t h = absurd (omega arith)
+map-at f (x ∷ xs) zero h = refl
+map-at f (x ∷ xs) (suc t) h = map-at f xs t (omega arith)
+
+pub row-at : (t : ℕ) → t < transitionCount → getD tableRows t [] ≡ rowOf (transitionAt t)
+unfolding tableRows
+row-at t h = map-at rowOf table t (omega (arith, table-checked .eighty))
+
+-- a row states the conditions of its transition, and can be looked up
+abbrev statedIn : Transition → List ℕ
+statedIn a = stated (drop 2 (rowOf a))
+
+abbrev knownIn : Transition → Bool
+knownIn a = known (drop 2 (rowOf a))
+
+all-stated : map statedIn table ≡ map (λ (a : Transition). a .conditions) table
+unfolding table
+all-stated = refl
+
+all-known : map knownIn table ≡ map (λ _. true) table
+unfolding table
+all-known = refl
+
+all-wide : map (λ (a : Transition). length (rowOf a)) table ≡ map (λ _. rowWidth) table
+unfolding table
+all-wide = refl
+
+pub stated-at : (t : ℕ) → stated (drop 2 (rowOf (transitionAt t))) ≡ transitionAt t .conditions
+stated-at = same-at statedIn (λ a. a .conditions) table nowhere all-stated refl
+
+pub is-row : (t : ℕ) → IsRow (rowOf (transitionAt t))
+is-row t =
+    record {
+      wide = same-at (λ a. length (rowOf a)) (λ _. rowWidth) table nowhere all-wide refl t;
+      conditions = same-at knownIn (λ _. true) table nowhere all-known refl t;
+    }

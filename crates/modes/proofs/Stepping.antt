@@ -1,0 +1,58 @@
+-- The mode step: what input that is not refused gives a walk, and what the walk of a mode's rows gives the step.
+-- Assumes nothing.
+use mathlib.Core.Path.{_≡_, refl, ap, _∙_, sym}
+use mathlib.Core.Bool.{Bool, true, false, _&&_, _||_, false≢true}
+use mathlib.Core.List.{List}
+use Prim.Native.Nat.{ℕ, _+_, _≤_}
+use lib.Dec.{eqb, leb}
+use lib.ListN.{length}
+use lib.Seq.{slice}
+use borrow.Author.Tests.{leb-true, eqb-true, not-false}
+use Rattle.modes.specs.Names.{SB, IS}
+use Rattle.modes.specs.Table.{Transition, table}
+use Rattle.modes.specs.Flags.{flagCount, wrongCount, flagAboveOne}
+use Rattle.modes.specs.Next.{those, isOpen, opens, choose, modeOutOfRange, refuses, refused, nextStep}
+use Rattle.modes.specs.Rows.{firstOf}
+use Rattle.modes.proofs.Scanning.{both-left, both-right}
+use Rattle.modes.proofs.Rows.{line}
+
+neither-left : (s t : Bool) → (s || t) ≡ false → s ≡ false
+neither-left false t e = refl
+neither-left true t e = e
+
+neither-right : (s t : Bool) → (s || t) ≡ false → t ≡ false
+neither-right false t e = e
+neither-right true t e = absurd (false≢true (sym e))
+
+-- what holds of a mode and flags that are not refused
+pub record Taken (m : ℕ) (fs : List ℕ) : Type 0 where
+  pub low : SB ≤ m
+  pub high : m ≤ IS
+  pub count : length fs ≡ flagCount
+
+pub taken : (m : ℕ) (fs : List ℕ) → refuses m fs ≡ false → Taken m fs
+unfolding refuses
+taken m fs e =
+    let mode = not-false (leb SB m && leb m IS) (neither-left (modeOutOfRange m) (wrongCount fs || flagAboveOne fs) e) in
+    let flags = neither-left (wrongCount fs) (flagAboveOne fs) (neither-right (modeOutOfRange m) (wrongCount fs || flagAboveOne fs) e) in
+    record {
+      low = leb-true SB m (both-left (leb SB m) (leb m IS) mode);
+      high = leb-true m IS (both-right (leb SB m) (leb m IS) mode);
+      count = eqb-true (length fs) flagCount (not-false (eqb (length fs) flagCount) flags);
+    }
+
+module _ (m : ℕ) (fs : List ℕ) where
+  pub next-refused : refuses m fs ≡ true → refused ≡ nextStep m fs
+  unfolding nextStep
+  next-refused e = rw e
+
+  pub next-chosen : refuses m fs ≡ false → nextStep m fs ≡ choose m (opens m fs)
+  unfolding nextStep
+  next-chosen e = rw e
+
+  -- the rows of the mode, walked from their first to the next mode's first
+  pub next-walked : refuses m fs ≡ false → (a e : ℕ) → a ≡ firstOf m → e ≡ firstOf (m + 1) → choose m (those (isOpen fs) (slice a e table)) ≡ nextStep m fs
+  next-walked t a e p q =
+      ap (λ (l : List Transition). choose m (those (isOpen fs) l))
+      (ap (λ n. slice n e table) p ∙ ap (λ n. slice (firstOf m) n table) q ∙ sym (line m (taken m fs t .high)))
+      ∙ sym (next-chosen t)

@@ -1,0 +1,51 @@
+-- `modes::consider` meets its contract: the row's transition is open, or it is not.
+-- Assumes nothing.
+use mathlib.Core.Path.{ap, _∙_, sym}
+use lib.ListN.{getD}
+use borrow.Author.Needs.{needs}
+use Rattle.modes.specs.Rows.{kept}
+use Rattle.modes.proofs.Walking.{considered-open, considered-shut}
+use Rattle.modes.proofs.consider.Statement.{statement}
+use Rattle.modes.proofs.consider.Tie as tie
+
+is-open-requires : tie.Need-is-open-requires
+is-open-requires c κs = search needs
+
+element-copy-out-number : tie.Need-element-copy-out-number
+element-copy-out-number c = search needs
+
+number-requires : tie.Need-number-requires
+number-requires c κs = search needs
+
+element-copy-out-number-2 : tie.Need-element-copy-out-number-2
+element-copy-out-number-2 c = search needs
+
+number-requires-2 : tie.Need-number-requires-2
+number-requires-2 c κs = search needs
+
+keep-requires : tie.Need-keep-requires
+keep-requires c κs = search needs
+
+returns : tie.Need-returns
+returns c =
+    let a = c .before .before .before .before .before .before .before .before .args in
+    c .keep .ensures
+    ∙ ap (λ n. kept (a .best) n (c .before .number2 .result)) (c .before .before .before .number .ensures)
+    ∙ ap (kept (a .best) (getD (a .row .now) 0 0)) (c .before .number2 .ensures)
+    ∙ sym (considered-open _ _ _ (sym (c .before .before .before .before .before .before .is-open .ensures) ∙ c .before .before .before .before .before .if1 .taken))
+
+returns-2 : tie.Need-returns-2
+returns-2 c = sym (considered-shut _ _ _ (sym (c .before .is-open .ensures) ∙ c .if1 .left))
+
+pub consider-spec : {M : Type 1} → statement M
+consider-spec =
+    tie.close
+    (tie.spec
+    is-open-requires
+    element-copy-out-number
+    number-requires
+    element-copy-out-number-2
+    number-requires-2
+    keep-requires
+    returns
+    returns-2)

@@ -1,0 +1,52 @@
+-- `modes::flags::has_bad_flag` meets its contract. The loop's invariant: no flag passed is above 1, so one is exactly where one of the rest is.
+-- Assumes nothing.
+use mathlib.Core.Path.{_≡_, refl, _∙_, sym}
+use Prim.Native.Nat.{_≤_, _-_}
+use native.Mathlib.Omega.{arith}
+use lib.ListN.{length, drop}
+use borrow.Author.Needs.{needs}
+use Rattle.modes.specs.Flags.{flagAboveOne}
+use Rattle.modes.proofs.Scanning.{above-here, above-next, above-end}
+use Rattle.modes.proofs.flags.has_bad_flag.Statement.{statement}
+use Rattle.modes.proofs.flags.has_bad_flag.Tie as tie
+
+abbrev Inv-loop : tie.InvT-loop
+Inv-loop flags i₀ i = (i ≤ length flags) × (flagAboveOne (drop i flags) ≡ flagAboveOne flags)
+
+abbrev μ-loop : tie.MeasureT-loop
+μ-loop flags i₀ i = length flags - i
+
+loop-holds : tie.Need-loop-holds Inv-loop μ-loop
+loop-holds c = (search needs, refl)
+
+shared-slice-read-if1 : tie.Need-shared-slice-read-if1 Inv-loop μ-loop
+shared-slice-read-if1 c = search needs
+
+returns : tie.Need-returns Inv-loop μ-loop
+returns c = sym (above-here _ _ (c .before .before .loop-test .taken) (c .if1 .taken)) ∙ c .before .before .before .loop .inv .1
+
+add-i : tie.Need-add-i Inv-loop μ-loop
+add-i c = omega arith
+
+loop-less : tie.Need-loop-less Inv-loop μ-loop
+loop-less c = omega arith
+
+loop-again : tie.Need-loop-again Inv-loop μ-loop
+loop-again c = (omega arith, sym (above-next _ _ (c .before .before .loop-test .taken) (c .if1 .left)) ∙ c .before .before .before .loop .inv .1)
+
+returns-2 : tie.Need-returns-2 Inv-loop μ-loop
+returns-2 c = sym (above-end _ _ (c .loop-test .left)) ∙ c .before .loop .inv .1
+
+pub has-bad-flag-spec : {M : Type 1} → statement M
+has-bad-flag-spec =
+    tie.close
+    (tie.spec
+    Inv-loop
+    μ-loop
+    loop-holds
+    shared-slice-read-if1
+    returns
+    add-i
+    loop-less
+    loop-again
+    returns-2)

@@ -1,0 +1,145 @@
+// The mode step (document 01, "Modes"): of the open transitions of a mode, the one of the best priority, by the lowest target.
+mod flags;
+pub mod names;
+mod table;
+
+use table::Row;
+use table::Rows;
+use table::index;
+use table::number;
+ghost use mathlib.Core.Path.{_≡_};
+ghost use Prim.Native.Nat.{_+_, _≤_};
+ghost use lib.ListN.{length, drop};
+ghost use lib.Seq.{slice};
+ghost use Rattle.modes.specs.Names.{IS};
+ghost use Rattle.modes.specs.Table.{transitionCount, table};
+ghost use Rattle.modes.specs.Flags.{flagCount, anySet};
+ghost use Rattle.modes.specs.Next.{accepted, choose, those, isOpen, refuses, nextStep};
+ghost use Rattle.modes.specs.Rows.{IsRow, tableRows, firstOf, stated, kept, considered};
+
+const OUT_OF_RANGE: u32 = 17;
+
+#[repr(C)]
+pub struct Step {
+    pub answer: u32,
+    pub mode: u32,
+    pub priority: u32,
+    pub tie: u32,
+}
+
+// Are these no mode, or not the flags of all conditions, each 0 or 1?
+fn is_refused(mode: u32, flags: &[u8]) -> bool
+    ensures { λ r. ⌜ r ≡ refuses mode (now (flags .entry)) ⌝ }
+{
+    if mode < names::SB {
+        return true;
+    }
+    if names::IS < mode {
+        return true;
+    }
+    if flags.len() != flags::FLAGS {
+        return true;
+    }
+    flags::has_bad_flag(flags)
+}
+
+// Is one of the conditions of a row set? They stand from place 2 on, up to the first zero.
+fn is_open(flags: &[u8], row: &Row) -> bool
+    requires { ⌜ (length (now flags) ≡ flagCount) × IsRow (now row) ⌝ }
+    ensures { λ r. ⌜ r ≡ anySet (now (flags .entry)) (stated (drop 2 (now (row .entry)))) ⌝ }
+{
+    let mut k = 2;
+    while k < table::WIDTH {
+        let n = index(row[k]);
+        if n == 0 {
+            return false;
+        }
+        if flags[n - 1] == 1 {
+            return true;
+        }
+        k += 1;
+    }
+    false
+}
+
+fn accept(mode: u32, priority: u32, tie: u32) -> Step
+    ensures { λ r. ⌜ r ≡ accepted mode priority tie ⌝ }
+{
+    Step {
+        answer: 0,
+        mode,
+        priority,
+        tie,
+    }
+}
+
+// The best so far, after one more open transition. A priority of 0 is none so far.
+fn keep(best: Step, target: u32, priority: u32) -> Step
+    ensures { λ r. ⌜ r ≡ kept best target priority ⌝ }
+{
+    if best.priority == 0 {
+        return accept(target, priority, 0);
+    }
+    if priority < best.priority {
+        return accept(target, priority, 0);
+    }
+    if priority == best.priority {
+        if best.mode <= target {
+            return accept(best.mode, priority, 1);
+        }
+        return accept(target, priority, 1);
+    }
+    best
+}
+
+// The best so far, after the transition in a row, which counts only if it is open.
+fn consider(flags: &[u8], row: &Row, best: Step) -> Step
+    requires { ⌜ (length (now flags) ≡ flagCount) × IsRow (now row) ⌝ }
+    ensures { λ r. ⌜ r ≡ considered (now (flags .entry)) best (now (row .entry)) ⌝ }
+{
+    if is_open(flags, row) {
+        return keep(best, number(row[0]), number(row[1]));
+    }
+    best
+}
+
+// The step of the mode, whose transitions stand in the rows from `start` up to `end`.
+fn walk(flags: &[u8], rows: &Rows, mode: u32, start: usize, end: usize) -> Step
+    requires { ⌜ (length (now flags) ≡ flagCount) × (now rows ≡ tableRows) × (start ≤ end) × (end ≤ transitionCount) ⌝ }
+    ensures { λ r. ⌜ r ≡ choose mode (those (isOpen (now (flags .entry))) (slice start end table)) ⌝ }
+{
+    let mut best = accept(mode, 0, 0);
+    let mut t = start;
+    while t < end {
+        let row = rows[t];
+        best = consider(flags, &row, best);
+        t += 1;
+    }
+    best
+}
+
+// Where the rows of mode m start; those of IS + 1 would start behind the last row.
+fn first(m: usize) -> usize
+    requires { ⌜ m ≤ IS + 1 ⌝ }
+    ensures { λ r. ⌜ r ≡ firstOf m ⌝ }
+{
+    index(table::FIRST[m])
+}
+
+// The next mode, its priority and the tie mark; the mode itself with priority 0 where no transition is open.
+pub fn next_mode(mode: u32, flags: &[u8]) -> Step
+    ensures { λ r. ⌜ r ≡ nextStep mode (now (flags .entry)) ⌝ }
+{
+    if is_refused(mode, flags) {
+        return Step {
+            answer: OUT_OF_RANGE,
+            mode: 0,
+            priority: 0,
+            tie: 0,
+        };
+    }
+    let m = mode as usize;
+    // only the rows of the one mode are walked; the table is taken once
+    let rows = table::ROWS;
+    walk(flags, &rows, mode, first(m), first(m + 1))
+}

@@ -1,0 +1,26 @@
+// The modes and their numbers.
+pub const SB: u32 = 1;
+
+pub const SR: u32 = 2;
+
+pub const LS: u32 = 3;
+
+pub const FS: u32 = 4;
+
+pub const OV: u32 = 5;
+
+pub const OS: u32 = 6;
+
+pub const TR: u32 = 7;
+
+pub const PT: u32 = 8;
+
+pub const RV: u32 = 9;
+
+pub const SH: u32 = 10;
+
+pub const NL: u32 = 11;
+
+pub const SF: u32 = 12;
+
+pub const IS: u32 = 13;

@@ -1,0 +1,159 @@
+// Prints the mode step of every mode for no flags, for each single flag and for all flags set, some steps with two flags, steps
+// that are refused, and frame ages. A line is what was asked, the answer's number and its values.
+use modes::names::*;
+ghost use mathlib.Core.Path.{_≡_};
+ghost use lib.ListN.{length};
+
+const STANDARD_OUTPUT: i32 = 1;
+
+fn text(s: &[u8]) {
+    io::write_all(STANDARD_OUTPUT, s);
+}
+
+fn number(n: u32) {
+    text(b" ");
+    io::print_decimal(STANDARD_OUTPUT, n as u64);
+}
+
+// These flags with condition n set too; the same flags where there is no condition n.
+fn with(flags: [u8; 91], n: usize) -> [u8; 91]
+    requires { ⌜ 91 ≡ length flags ⌝ }
+    ensures { λ r. ⌜ 91 ≡ length r ⌝ }
+{
+    let mut changed = flags;
+    if 1 <= n {
+        if n <= 91 {
+            changed[n - 1] = 1;
+        }
+    }
+    changed
+}
+
+// 91 flags, of which condition n alone is set; n is 0 for none.
+fn single(n: usize) -> [u8; 91]
+    ensures { λ r. ⌜ 91 ≡ length r ⌝ }
+{
+    with([0; 91], n)
+}
+
+// The numbers of a step, as the rest of a line.
+fn step(mode: u32, flags: &[u8]) {
+    let s = modes::next_mode(mode, flags);
+    number(s.answer);
+    number(s.mode);
+    number(s.priority);
+    number(s.tie);
+    text(b"\n");
+}
+
+// The step with condition n alone set, or none where n is 0.
+fn one(mode: u32, n: u32) {
+    text(b"step");
+    number(mode);
+    number(n);
+    step(mode, &single(n as usize));
+}
+
+// The step with all flags set.
+fn all(mode: u32) {
+    text(b"step");
+    number(mode);
+    text(b" all");
+    step(mode, &[1; 91]);
+}
+
+fn steps(mode: u32) {
+    for n in 0..92 {
+        one(mode, n);
+    }
+    all(mode);
+}
+
+// The step with two conditions set.
+fn two(mode: u32, a: u32, b: u32) {
+    text(b"two");
+    number(mode);
+    number(a);
+    number(b);
+    step(mode, &with(single(a as usize), b as usize));
+}
+
+// The paper's two examples of FS, then a tie of each mode that has one, and two conditions of one transition, which are no tie.
+fn pairs() {
+    two(FS, 71, 76);
+    two(FS, 69, 2);
+    two(SB, 60, 62);
+    two(SR, 45, 56);
+    two(LS, 17, 90);
+    two(FS, 56, 58);
+    two(OS, 71, 58);
+    two(PT, 86, 58);
+    two(SB, 77, 60);
+}
+
+// Numbers that are no mode, then flags that are too few, too many or above 1.
+fn refusals() {
+    text(b"mode 0");
+    step(0, &single(2));
+    text(b"mode 14");
+    step(14, &single(2));
+    text(b"mode 257");
+    step(257, &single(2));
+    text(b"mode 4294967295");
+    step(4294967295, &single(2));
+    text(b"flags 90");
+    step(SB, &[1; 90]);
+    text(b"flags 92");
+    step(SB, &[1; 92]);
+    text(b"flag 2");
+    step(SB, &[2; 91]);
+}
+
+fn age(station: u32, onboard: u32) {
+    let a = clock::frame_age(station, onboard);
+    text(b"age");
+    number(station);
+    number(onboard);
+    number(a.answer);
+    number(a.age);
+    number(a.condition24);
+    number(a.condition26);
+    number(a.condition27);
+    text(b"\n");
+}
+
+// The paper's example; equal numbers; the ages on both sides of each condition; the ends; numbers that are refused.
+fn ages() {
+    age(20, 11);
+    age(500, 500);
+    age(503, 500);
+    age(504, 500);
+    age(509, 500);
+    age(510, 500);
+    age(529, 500);
+    age(530, 500);
+    age(1, 1);
+    age(86_400, 86_400);
+    age(86_400, 1);
+    age(1, 86_400);
+    age(11, 20);
+    age(0, 0);
+    age(1, 0);
+    age(86_401, 86_400);
+    age(86_401, 86_401);
+    age(4_294_967_295, 1);
+    age(4_294_967_295, 4_294_967_295);
+}
+
+fn every_mode() {
+    for mode in SB..IS + 1 {
+        steps(mode);
+    }
+}
+
+fn main() {
+    every_mode();
+    pairs();
+    refusals();
+    ages();
+}

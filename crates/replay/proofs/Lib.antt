@@ -1,0 +1,10 @@
+pub mod Rings
+pub mod Ways
+pub mod Views
+pub mod Tickets
+pub mod Entries
+pub mod Demand
+pub mod Fixed
+pub mod Played
+pub mod Numbered
+pub mod Example

@@ -1,0 +1,29 @@
+// The places of a ring that keeps the newest DEPTH entries of a log, and the number of entries that it keeps.
+ghost use Prim.Native.Nat.{suc, min};
+ghost use mathlib.Core.Path.{_≡_};
+ghost use Rattle.replay.specs.Demand3.{depth};
+ghost use Rattle.replay.specs.Ring.{after, before};
+
+// The entries that are kept at most: as many places has the ring.
+pub const DEPTH: usize = 128;
+
+// The place that follows this one, round the ring.
+pub fn place_after(place: usize) -> usize
+    ensures { λ r. ⌜ r ≡ after depth place ⌝ }
+{
+    if place < DEPTH - 1 { place + 1 } else { 0 }
+}
+
+// The place before this one, round the ring.
+pub fn place_before(place: usize) -> usize
+    ensures { λ r. ⌜ r ≡ before depth place ⌝ }
+{
+    if place == 0 { DEPTH - 1 } else { place - 1 }
+}
+
+// The entries kept after one more.
+pub fn kept_after(kept: usize) -> usize
+    ensures { λ r. ⌜ r ≡ min depth (suc kept) ⌝ }
+{
+    if kept < DEPTH { kept + 1 } else { DEPTH }
+}

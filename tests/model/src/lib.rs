@@ -1,0 +1,15 @@
+//! An independent model of the radio bench, in plain Rust.
+//!
+//! It is written from document 01 and its two annexes alone and shares nothing with the proved crates, so that a
+//! difference between the two shows a mistake in one of them. Numbers are `u32` and may be any: what is out of range is
+//! refused, never cut. The tables of the paper that are easy to copy wrongly (modes, SOS grids and row classes) are kept
+//! as the paper's own lines and parsed at start-up.
+
+pub mod answers;
+pub mod clock;
+pub mod modes;
+pub mod packets;
+pub mod recording;
+pub mod session;
+pub mod sos;
+pub mod train;

@@ -1,0 +1,43 @@
+#!/usr/bin/env python3
+"""Runs every sample through a listing program and compares: tests/samples.py PROGRAM ...
+
+PROGRAM reads a recording on standard input and writes its listing to standard output. The recordings themselves are
+compared with what tools/record makes of their lines, and with what it makes of the lines that it shows.
+"""
+
+import pathlib
+import subprocess
+import sys
+
+ROOT = pathlib.Path(__file__).resolve().parent.parent
+
+
+def output_of(command, given):
+    """What a command writes; the exit status is no matter, since a damaged recording is shown with status 1."""
+    return subprocess.run(command, input=given, stdout=subprocess.PIPE, stderr=subprocess.DEVNULL, check=False).stdout
+
+
+def differences(sample, program):
+    """What is not as it should be with one sample."""
+    record = str(ROOT / "tools" / "record")
+    recording = sample.read_bytes()
+    lines = sample.with_suffix(".txt").read_bytes()
+    if output_of([record, "make"], lines) != recording:
+        yield "its lines make another recording"
+    if output_of([record, "make"], output_of([record, "show"], recording)) != recording:
+        yield "shown and made again it is another recording"
+    if output_of(program, recording) != sample.with_suffix(".lst").read_bytes():
+        yield "the listing is another"
+
+
+def main(program):
+    samples = sorted((ROOT / "samples").glob("*.rec"))
+    problems = [f"{sample.name}: {problem}" for sample in samples for problem in differences(sample, program)]
+    print(*problems, f"{len(samples)} samples, {len(problems)} differences", sep="\n")
+    return 1 if problems or not samples else 0
+
+
+if __name__ == "__main__":
+    if len(sys.argv) < 2:
+        sys.exit(__doc__)
+    sys.exit(main(sys.argv[1:]))
