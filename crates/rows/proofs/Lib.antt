@@ -1,0 +1,4 @@
+pub mod Bytewise
+pub mod FitLaws
+pub mod RowLaws
+pub mod RegisterLaws

@@ -1,0 +1,41 @@
+-- `rows::register::row_holds` meets its contract.
+use mathlib.Core.Path.{sym, ap, _∙_}
+use Rattle.trains.specs.declared.kinds.Loco.{Loco}
+use Rattle.trains.specs.declared.record.Train.{Train}
+use Rattle.trains.specs.Kinds.{sameLoco}
+use Rattle.trains.specs.Record.{noLoco}
+use Rattle.rows.specs.declared.register.Sought.{Sought}
+use Rattle.rows.specs.Register.{rowOf, holdsLoco, isSought}
+use borrow.Author.Needs.{needs}
+use Rattle.rows.proofs.register.row_holds.Statement.{statement}
+use Rattle.rows.proofs.register.row_holds.Tie as tie
+
+returns : tie.Need-returns
+returns c =
+    let a = c .before .before .before .before .before .args in
+    let row : Train = rowOf (a .register .now) (a .at) (a .i) in
+    let given = c .before .before .sought .given .1 in
+    c .holds-pair .ensures ∙ sym (ap (λ (x : Sought). isSought x row) given)
+
+returns-2 : tie.Need-returns-2
+unfolding isSought
+returns-2 c =
+    let a = c .before .before .before .before .before .before .args in
+    let row : Train = rowOf (a .register .now) (a .at) (a .i) in
+    let given = c .before .before .before .sought2 .given .1 in
+    c .holds-loco .ensures
+    ∙ ap (λ (x : Loco). holdsLoco x (c .before .before .before .sought2 .given .0 .0)) (c .before .loco-of .ensures)
+    ∙ sym (ap (λ (x : Sought). isSought x row) given)
+
+returns-3 : tie.Need-returns-3
+unfolding isSought
+returns-3 c =
+    let a = c .before .before .before .before .before .args in
+    let row : Train = rowOf (a .register .now) (a .at) (a .i) in
+    let given = c .before .before .enum-told .given .1 in
+    c .is .ensures
+    ∙ ap (λ (x : Loco). sameLoco x noLoco) (c .before .loco-of2 .ensures)
+    ∙ sym (ap (λ (x : Sought). isSought x row) given)
+
+pub row-holds-spec : {M : Type 1} → statement M
+row-holds-spec = tie.close (tie.spec (λ c. search needs) (λ c κs. search needs) (λ c. search needs) (λ c κs. search needs) (λ c κs. search needs) (λ c. search needs) (λ c κs. search needs) (λ c κs. search needs) returns returns-2 returns-3)

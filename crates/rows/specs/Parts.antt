@@ -1,0 +1,134 @@
+-- The parts of a row: the bytes that each number takes, the numbers of a part in order, and the part that numbers read as.
+-- What may be missing is a flag and its numbers: a flag of 0 says that it is missing, and then the numbers are 0.
+use mathlib.Core.Bool.{cond}
+use mathlib.Core.List.{List, [], _∷_, _++_, map}
+use Prim.Native.Nat.{ℕ, _*_}
+use lib.Dec.{eqb}
+use lib.ListN.{getD, drop}
+use Rattle.trains.specs.declared.record.Limit.{Limit}
+use Rattle.trains.specs.declared.record.Limit.the-variants.{Bare, To}
+use Rattle.trains.specs.declared.record.Order.{Order}
+use Rattle.trains.specs.declared.record.Place.{Place}
+use Rattle.trains.specs.declared.record.Place.the-variants.{Nowhere, At}
+use Rattle.trains.specs.declared.record.Position.{Position}
+use Rattle.trains.specs.declared.record.Position.the-variants.{Unknown, Between}
+use Rattle.trains.specs.declared.record.Track.{Track}
+use Rattle.trains.specs.Record.{orderAt}
+
+-- the widths in bits of numbers whose sizes in bytes are given
+abbrev pub bits : List ℕ → List ℕ
+bits sizes = map (λ (n : ℕ). 8 * n) sizes
+
+-- ---- sizes in bytes
+
+-- a place: its flag and its location
+abbrev pub placeSizes : List ℕ
+placeSizes = 1 ∷ 4 ∷ []
+
+-- a position: its flag, front and rear
+abbrev pub positionSizes : List ℕ
+positionSizes = 1 ∷ 4 ∷ 4 ∷ []
+
+-- the track: the position, the granted end, the danger location
+abbrev pub trackSizes : List ℕ
+trackSizes = positionSizes ++ (placeSizes ++ placeSizes)
+
+-- an order: the other train's ticket, the limit's flag and the limit
+abbrev pub orderSizes : List ℕ
+orderSizes = 4 ∷ 1 ∷ 4 ∷ []
+
+-- four orders
+abbrev pub ordersSizes : List ℕ
+ordersSizes = orderSizes ++ (orderSizes ++ (orderSizes ++ orderSizes))
+
+-- ---- what is put
+
+-- 1 for a place, 0 for none
+abbrev pub placeFlag : Place → ℕ
+placeFlag Nowhere = 0
+placeFlag (At x) = 1
+
+-- the location, 0 for none
+abbrev pub placeNumber : Place → ℕ
+placeNumber Nowhere = 0
+placeNumber (At x) = x
+
+-- 1 for a position, 0 for none
+abbrev pub positionFlag : Position → ℕ
+positionFlag Unknown = 0
+positionFlag (Between front rear) = 1
+
+-- the front, 0 for none
+abbrev pub positionFront : Position → ℕ
+positionFront Unknown = 0
+positionFront (Between front rear) = front
+
+-- the rear, 0 for none
+abbrev pub positionRear : Position → ℕ
+positionRear Unknown = 0
+positionRear (Between front rear) = rear
+
+-- 1 for a limit, 0 for a bare order
+abbrev pub limitFlag : Limit → ℕ
+limitFlag Bare = 0
+limitFlag (To x) = 1
+
+-- the limit, 0 for a bare order
+abbrev pub limitNumber : Limit → ℕ
+limitNumber Bare = 0
+limitNumber (To x) = x
+
+-- the numbers of a place
+abbrev pub placeValues : Place → List ℕ
+placeValues p = placeFlag p ∷ placeNumber p ∷ []
+
+-- the numbers of a position
+abbrev pub positionValues : Position → List ℕ
+positionValues p = positionFlag p ∷ positionFront p ∷ positionRear p ∷ []
+
+-- the numbers of the track
+abbrev pub trackValues : Track → List ℕ
+trackValues k = positionValues (k .position) ++ (placeValues (k .granted) ++ placeValues (k .danger))
+
+-- the numbers of an order
+abbrev pub orderValues : Order → List ℕ
+orderValues o = o .other .0 ∷ limitFlag (o .limit) ∷ limitNumber (o .limit) ∷ []
+
+-- the numbers of four orders
+abbrev pub ordersValues : List Order → List ℕ
+ordersValues os =
+    orderValues (orderAt os 0) ++ (orderValues (orderAt os 1) ++ (orderValues (orderAt os 2) ++ orderValues (orderAt os 3)))
+
+-- ---- what is read
+
+-- a place by its flag
+unfoldable pub placeBy : ℕ → ℕ → Place
+placeBy flag x = cond (eqb flag 0) Nowhere (At x)
+
+-- a limit by its flag
+unfoldable pub limitBy : ℕ → ℕ → Limit
+limitBy flag x = cond (eqb flag 0) Bare (To x)
+
+-- a position by its flag
+unfoldable pub positionBy : ℕ → ℕ → ℕ → Position
+positionBy flag front rear = cond (eqb flag 0) Unknown (Between front rear)
+
+-- the place that numbers read as
+abbrev pub placeOf : List ℕ → Place
+placeOf vs = placeBy (getD vs 0 0) (getD vs 1 0)
+
+-- the track that numbers read as
+abbrev pub trackOf : List ℕ → Track
+trackOf vs = record {
+  position = positionBy (getD vs 0 0) (getD vs 1 0) (getD vs 2 0);
+  granted = placeOf (drop 3 vs);
+  danger = placeOf (drop 5 vs);
+}
+
+-- the order that numbers read as
+abbrev pub orderOf : List ℕ → Order
+orderOf vs = record { other = record { 0 = getD vs 0 0 }; limit = limitBy (getD vs 1 0) (getD vs 2 0) }
+
+-- the four orders that numbers read as
+abbrev pub ordersOf : List ℕ → List Order
+ordersOf vs = orderOf vs ∷ orderOf (drop 3 vs) ∷ orderOf (drop 6 vs) ∷ orderOf (drop 9 vs) ∷ []

@@ -1,0 +1,3 @@
+pub mod Classes
+pub mod Grids
+pub mod Shares

@@ -1,0 +1,49 @@
+-- What the measures M2 to M6 of an SOS give to L1 and to L2. Locations are those reported when it is raised.
+use mathlib.Core.Bool.{cond}
+use Prim.Native.Nat.{ℕ, _-_}
+use lib.Dec.{eqb}
+use Rattle.trains.specs.declared.record.Limit.the-variants.{Bare, To}
+use Rattle.trains.specs.declared.record.Position.{Position}
+use Rattle.trains.specs.declared.record.Position.the-variants.{Unknown, Between}
+use Rattle.trains.specs.declared.record.Train.{Train}
+use Rattle.sos.specs.declared.shares.Share.{Share}
+use Rattle.sos.specs.declared.shares.Share.the-variants.{Nothing, NoPosition, Order}
+
+-- how far behind L1's rear M2 limits L2, in metres
+abbrev pub margin : ℕ
+margin = 300
+
+-- a limit at the train's own front
+unfoldable pub ownFront : Position → Share
+ownFront Unknown = NoPosition
+ownFront (Between front rear) = Order (To front)
+
+-- a limit that far behind a train's rear, not below 0
+unfoldable pub behind : Position → ℕ → Share
+behind Unknown distance = NoPosition
+behind (Between front rear) distance = Order (To (rear - distance))
+
+-- a measure that gives something, and the measures after it
+abbrev pub when : ℕ → ℕ → Share → Share → Share
+when measure m this others = cond (eqb measure m) this others
+
+-- M4: L1 to its own front. M6: bare
+unfoldable pub shareOfL1 : ℕ → Train → Share
+shareOfL1 measure l1 =
+    when measure 4 (ownFront (l1 .track .position))
+    (when measure 6 (Order Bare)
+    Nothing)
+
+-- M2: L2 to the rear of the train ahead less the margin. M3 and M4: L2 to its own front. M5 and M6: bare
+unfoldable pub shareBehind : ℕ → Position → Position → ℕ → Share
+shareBehind measure ahead own distance =
+    when measure 2 (behind ahead distance)
+    (when measure 3 (ownFront own)
+    (when measure 4 (ownFront own)
+    (when measure 5 (Order Bare)
+    (when measure 6 (Order Bare)
+    Nothing))))
+
+-- what L2 gets, of an SOS between L1 and L2
+abbrev pub shareOfL2 : ℕ → Train → Train → ℕ → Share
+shareOfL2 measure l1 l2 distance = shareBehind measure (l1 .track .position) (l2 .track .position) distance

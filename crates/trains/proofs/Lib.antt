@@ -1,0 +1,5 @@
+pub mod RangeLaws
+pub mod FoundLaws
+pub mod AuthorityLaws
+pub mod OrderLaws
+pub mod ChangeLaws

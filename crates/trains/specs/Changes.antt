@@ -1,0 +1,60 @@
+-- A train record with one part changed. Loco, ticket and slots never change.
+use mathlib.Core.Bool.{cond}
+use mathlib.Core.List.{List}
+use Prim.Native.Nat.{ℕ}
+use lib.Dec.{eqb}
+use Rattle.modes.specs.Names.{OV}
+use Rattle.trains.specs.declared.record.Place.{Place}
+use Rattle.trains.specs.declared.record.Position.the-variants.{Between}
+use Rattle.trains.specs.declared.record.Order.{Order}
+use Rattle.trains.specs.declared.record.Track.{Track}
+use Rattle.trains.specs.declared.record.Train.{Train}
+
+-- the same train with the mode, the mode left, the track and the orders given
+abbrev pub changed : Train → ℕ → ℕ → Track → List Order → Train
+changed t mode left track orders = record {
+  loco = t .loco;
+  ticket = t .ticket;
+  start = t .start;
+  slots = t .slots;
+  mode = mode;
+  left = left;
+  track = track;
+  orders = orders;
+}
+
+-- the same train on another track
+abbrev pub onTrack : Train → Track → Train
+onTrack t track = changed t (t .mode) (t .left) track (t .orders)
+
+-- the track with a position reported
+abbrev pub reported : Track → ℕ → ℕ → Track
+reported k front rear = record { position = Between front rear; granted = k .granted; danger = k .danger }
+
+-- the track with an authority granted, or none
+abbrev pub authorised : Track → Place → Track
+authorised k end = record { position = k .position; granted = end; danger = k .danger }
+
+-- the track with a signal at danger, or none
+abbrev pub signalled : Track → Place → Track
+signalled k danger = record { position = k .position; granted = k .granted; danger = danger }
+
+-- a position reported
+abbrev pub withPosition : Train → ℕ → ℕ → Train
+withPosition t front rear = onTrack t (reported (t .track) front rear)
+
+-- an authority granted, or none
+abbrev pub withAuthority : Train → Place → Train
+withAuthority t end = onTrack t (authorised (t .track) end)
+
+-- a signal at danger, or none
+abbrev pub withSignal : Train → Place → Train
+withSignal t danger = onTrack t (signalled (t .track) danger)
+
+-- the mode left is kept exactly while the mode is OV
+unfoldable pub leftFor : ℕ → ℕ → ℕ
+leftFor left mode = cond (eqb mode OV) left 0
+
+-- a transition to another mode
+abbrev pub withMode : Train → ℕ → Train
+withMode t mode = changed t mode (leftFor (t .mode) mode) (t .track) (t .orders)

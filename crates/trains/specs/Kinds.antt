@@ -1,0 +1,44 @@
+-- The three kinds of number that name something in a session: when two are the same, and the range of each.
+use mathlib.Core.Bool.{Bool}
+use Prim.Native.Nat.{ℕ}
+use lib.Dec.{eqb}
+use Rattle.trains.specs.declared.kinds.Loco.{Loco}
+use Rattle.trains.specs.declared.kinds.Ticket.{Ticket}
+use Rattle.trains.specs.declared.kinds.Slot.{Slot}
+use Rattle.trains.specs.Ranges.{oneTo}
+
+-- the highest loco number
+abbrev pub lastLoco : ℕ
+lastLoco = 131070
+
+-- the highest ticket
+abbrev pub lastTicket : ℕ
+lastTicket = 65535
+
+-- the highest slot
+abbrev pub lastSlot : ℕ
+lastSlot = 44
+
+-- two loco numbers are the same
+abbrev pub sameLoco : Loco → Loco → Bool
+sameLoco a b = eqb (a .0) (b .0)
+
+-- two tickets are the same
+abbrev pub sameTicket : Ticket → Ticket → Bool
+sameTicket a b = eqb (a .0) (b .0)
+
+-- two slots are the same
+abbrev pub sameSlot : Slot → Slot → Bool
+sameSlot a b = eqb (a .0) (b .0)
+
+-- loco numbers are 1 to 131,070
+abbrev pub locoInRange : Loco → Bool
+locoInRange a = oneTo lastLoco (a .0)
+
+-- tickets are 1 to 65,535
+abbrev pub ticketInRange : Ticket → Bool
+ticketInRange a = oneTo lastTicket (a .0)
+
+-- slots are 1 to 44
+abbrev pub slotInRange : Slot → Bool
+slotInRange a = oneTo lastSlot (a .0)

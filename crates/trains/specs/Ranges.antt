@@ -1,0 +1,42 @@
+-- The range rules that operations ask for, and the number that stands for no location.
+use mathlib.Core.Bool.{Bool, cond, _&&_, _||_}
+use Prim.Native.Nat.{ℕ}
+use lib.Dec.{eqb, leb}
+use Rattle.trains.specs.declared.record.Place.{Place}
+use Rattle.trains.specs.declared.record.Place.the-variants.{Nowhere, At}
+
+-- the highest location, in metres
+abbrev pub lastLocation : ℕ
+lastLocation = 524287
+
+-- there are four grids
+abbrev pub gridCount : ℕ
+gridCount = 4
+
+-- what a boundary carries for no authority, or no signal at danger
+abbrev pub none : ℕ
+none = 4294967295
+
+-- 1 to a last number
+unfoldable pub oneTo : ℕ → ℕ → Bool
+oneTo last n = leb 1 n && leb n last
+
+-- locations are 0 to 524,287
+abbrev pub isLocation : ℕ → Bool
+isLocation x = leb x lastLocation
+
+-- front and rear of a position: locations, and the rear not above the front
+unfoldable pub isPosition : ℕ → ℕ → Bool
+isPosition front rear = isLocation front && leb rear front
+
+-- grids are 1 to 4
+abbrev pub isGrid : ℕ → Bool
+isGrid grid = oneTo gridCount grid
+
+-- what may stand for an authority's end or a danger location
+unfoldable pub isPlace : ℕ → Bool
+isPlace number = eqb number none || isLocation number
+
+-- the place that a number at a boundary stands for
+unfoldable pub placeOf : ℕ → Place
+placeOf number = cond (eqb number none) Nowhere (At number)

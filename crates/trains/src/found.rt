@@ -1,0 +1,19 @@
+// What a search of numbered places finds.
+ghost use mathlib.Core.Path.{_≡_};
+ghost use Rattle.trains.specs.Found.{isFound};
+
+pub enum Found {
+    Nothing,
+    Index(usize),
+}
+
+impl Found {
+    pub fn is_there(self) -> bool
+        ensures { λ r. ⌜ r ≡ isFound self ⌝ }
+    {
+        match self {
+            Found::Nothing => false,
+            Found::Index(_) => true,
+        }
+    }
+}

@@ -1,0 +1,59 @@
+// The three kinds of number that name something in a session. Each is compared by its own `is` alone, so that a loco number
+// or a slot can't reach a ticket comparison, and each knows its range.
+use crate::ranges;
+ghost use mathlib.Core.Path.{_≡_};
+ghost use Rattle.trains.specs.Kinds.{sameLoco, sameTicket, sameSlot, locoInRange, ticketInRange, slotInRange};
+
+pub const LAST_LOCO: u32 = 131070;
+
+pub const LAST_TICKET: u32 = 65535;
+
+pub const LAST_SLOT: u32 = 44;
+
+pub struct Loco(pub u32);
+
+pub struct Ticket(pub u32);
+
+pub struct Slot(pub u32);
+
+impl Loco {
+    pub fn is(self, other: Loco) -> bool
+        ensures { λ r. ⌜ r ≡ sameLoco self other ⌝ }
+    {
+        self.0 == other.0
+    }
+
+    pub fn in_range(self) -> bool
+        ensures { λ r. ⌜ r ≡ locoInRange self ⌝ }
+    {
+        ranges::is_one_to(LAST_LOCO, self.0)
+    }
+}
+
+impl Ticket {
+    pub fn is(self, other: Ticket) -> bool
+        ensures { λ r. ⌜ r ≡ sameTicket self other ⌝ }
+    {
+        self.0 == other.0
+    }
+
+    pub fn in_range(self) -> bool
+        ensures { λ r. ⌜ r ≡ ticketInRange self ⌝ }
+    {
+        ranges::is_one_to(LAST_TICKET, self.0)
+    }
+}
+
+impl Slot {
+    pub fn is(self, other: Slot) -> bool
+        ensures { λ r. ⌜ r ≡ sameSlot self other ⌝ }
+    {
+        self.0 == other.0
+    }
+
+    pub fn in_range(self) -> bool
+        ensures { λ r. ⌜ r ≡ slotInRange self ⌝ }
+    {
+        ranges::is_one_to(LAST_SLOT, self.0)
+    }
+}
