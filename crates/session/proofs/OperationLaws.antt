@@ -1,0 +1,75 @@
+-- How an operation ends: a session of another length, a refusal, or an effect taken in. Assumes nothing.
+use mathlib.Core.Path.{_≡_, sym, ap, _∙_, subst}
+use mathlib.Core.Bool.{Bool, true, false, cond}
+use mathlib.Core.List.{List}
+use Prim.Native.Nat.{ℕ, suc, _-_, _<_, _≤_}
+use borrow.Author.Tests.{eq-eqb, ne-eqb, lt-ltb, le-ltb}
+use lib.Dec.{eqb, ltb}
+use lib.ListN.{length}
+use Rattle.store.specs.Back.{steppedBy}
+use Rattle.store.specs.Layout.{sessionBytes}
+use Rattle.store.specs.Settled.{settled}
+use Rattle.store.specs.View.{viewOf, counterOf, keptOf}
+use Rattle.store.specs.Effect.{InBounds}
+use Rattle.session.specs.declared.ruling.Answer.{Answer}
+use Rattle.session.specs.declared.ruling.Ruling.{Ruling}
+use Rattle.session.specs.Answers.{ifSession, judged, taken, answerTo, bytesAfter, backAnswer, backAfter}
+use Rattle.session.specs.Refusals.{wrongLength, tooFarBack}
+use Rattle.session.specs.Rules.{Op, counterAfter}
+use Rattle.session.specs.Ruling.{acceptedWith, refusedWith}
+use Rattle.session.proofs.BoundLaws.{bounded}
+
+pub is-session : {A : Type 0} (bs : List ℕ) (a b : A) → length bs ≡ sessionBytes → ifSession bs a b ≡ a
+unfolding ifSession
+is-session bs a b e = λ i. cond (eq-eqb (length bs) sessionBytes e i) a b
+
+pub no-session : {A : Type 0} (bs : List ℕ) (a b : A) → (length bs ≡ sessionBytes → ⊥) → ifSession bs a b ≡ b
+unfolding ifSession
+no-session bs a b e = λ i. cond (ne-eqb (length bs) sessionBytes e i) a b
+
+-- a ruling taken in, and one that is refused
+pub taken-in : (bs : List ℕ) (counter : ℕ) (r : Ruling) → r .answer .answer ≡ 0 → settled bs counter (r .effect) ≡ taken bs counter r
+unfolding taken
+taken-in bs counter r e = sym (λ i. cond (eq-eqb (r .answer .answer) 0 e i) (settled bs counter (r .effect)) bs)
+
+pub not-taken : (bs : List ℕ) (counter : ℕ) (r : Ruling) → (r .answer .answer ≡ 0 → ⊥) → bs ≡ taken bs counter r
+unfolding taken
+not-taken bs counter r e = sym (λ i. cond (ne-eqb (r .answer .answer) 0 e i) (settled bs counter (r .effect)) bs)
+
+module _ (bs : List ℕ) (o : Op) where
+  -- another length
+  pub op-wrong-length : (length bs ≡ sessionBytes → ⊥) → (refusedWith wrongLength ≡ answerTo bs o) × (bs ≡ bytesAfter bs o)
+  unfolding answerTo bytesAfter
+  op-wrong-length h = (sym (no-session bs _ _ h), sym (no-session bs _ _ h))
+
+  -- what may be committed
+  pub op-bounded : (r : Ruling) → r ≡ judged bs o → InBounds (r .effect)
+  unfolding judged
+  op-bounded r e = subst (λ (q : Ruling). InBounds (q .effect)) (sym e) (bounded o (suc (counterOf bs)) (viewOf bs))
+
+  -- a session: the ruling is the answer, and is taken in
+  pub op-committed : length bs ≡ sessionBytes → (r : Ruling) (a : Answer) (counter : ℕ) (after : List ℕ) → r ≡ judged bs o → a ≡ r .answer
+      → after ≡ taken bs counter r → taken bs counter r ≡ taken bs (counterAfter o (counterOf bs)) r → (a ≡ answerTo bs o) × (after ≡ bytesAfter bs o)
+  unfolding answerTo bytesAfter
+  op-committed h r a counter after er ea eb ec = (
+    ea ∙ ap (λ (q : Ruling). q .answer) er ∙ sym (is-session bs _ _ h),
+    eb ∙ ec ∙ ap (taken bs (counterAfter o (counterOf bs))) er ∙ sym (is-session bs _ _ h),
+  )
+
+-- a step back too far, and one that is taken
+module _ (bs : List ℕ) (k : ℕ) (h : length bs ≡ sessionBytes) where
+  pub back-refused : keptOf bs < k → (refusedWith tooFarBack ≡ backAnswer bs k) × (bs ≡ backAfter bs k)
+  unfolding backAnswer backAfter
+  back-refused far =
+      let t : ltb (keptOf bs) k ≡ true = lt-ltb (keptOf bs) k far in (
+        sym (is-session bs _ _ h ∙ (λ i. cond (t i) (refusedWith tooFarBack) (acceptedWith (keptOf bs - k) 0 0))),
+        sym (is-session bs _ _ h ∙ (λ i. cond (t i) bs (steppedBy k bs))),
+      )
+
+  pub back-taken : k ≤ keptOf bs → (acceptedWith (keptOf bs - k) 0 0 ≡ backAnswer bs k) × (steppedBy k bs ≡ backAfter bs k)
+  unfolding backAnswer backAfter
+  back-taken near =
+      let t : ltb (keptOf bs) k ≡ false = le-ltb (keptOf bs) k near in (
+        sym (is-session bs _ _ h ∙ (λ i. cond (t i) (refusedWith tooFarBack) (acceptedWith (keptOf bs - k) 0 0))),
+        sym (is-session bs _ _ h ∙ (λ i. cond (t i) bs (steppedBy k bs))),
+      )

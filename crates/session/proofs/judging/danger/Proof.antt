@@ -1,0 +1,24 @@
+-- `session::judging::danger` meets its contract. Assumes nothing.
+use mathlib.Core.Path.{_≡_, sym, ap, _∙_}
+use Rattle.session.specs.Answers.{judged}
+use Rattle.session.specs.Named.{onNamed}
+use Rattle.session.specs.Rules.{rule}
+use Rattle.session.proofs.NamedLaws.{nobody-named, somebody-named}
+use Rattle.session.specs.Running.{signalled}
+use borrow.Author.Needs.{needs}
+use Rattle.session.proofs.judging.danger.Statement.{statement}
+use Rattle.session.proofs.judging.danger.Tie as tie
+
+returns : tie.Need-returns
+unfolding judged rule
+returns c = c .refused .ensures ∙ nobody-named _ _ (signalled (c .before .before .before .before .before .before .args .location)) (c .before .before .before .before .find .ensures) (c .before .if1 .taken)
+
+returns-2 : tie.Need-returns-2
+unfolding judged rule
+returns-2 c = c .signal .ensures ∙ somebody-named _ _ (signalled (c .before .before .before .before .before .before .args .location)) (c .before .before .before .before .find .ensures) (c .before .if1 .left)
+
+pub danger-spec : {M : Type 1} → statement M
+danger-spec =
+    tie.close
+    (tie.spec
+    (λ c κs. search needs) (λ c κs. search needs) returns (λ c κs. search needs) returns-2)

@@ -1,0 +1,37 @@
+-- `session::operations::step_back` meets its contract. Assumes nothing.
+use mathlib.Core.Path.{_≡_, sym, ap, _∙_}
+use Rattle.session.proofs.OperationLaws.{is-session, no-session}
+use Rattle.session.proofs.OperationLaws.{back-refused, back-taken}
+use native.Mathlib.Omega.{arith}
+use Prim.Native.Nat.{ℕ, _-_}
+use Rattle.replay.specs.Demand3.{depth}
+use Rattle.session.specs.Ruling.{acceptedWith}
+use Rattle.session.specs.Answers.{backAnswer, backAfter}
+use borrow.Author.Needs.{needs}
+use Rattle.session.proofs.operations.step_back.Statement.{statement}
+use Rattle.session.proofs.operations.step_back.Tie as tie
+
+returns : tie.Need-returns
+unfolding backAnswer backAfter
+returns c = (c .refused .ensures ∙ sym (no-session _ _ _ (c .before .if1 .taken)), sym (no-session _ _ _ (c .before .if1 .taken)))
+
+returns-2 : tie.Need-returns-2
+returns-2 c = let a = c .before .before .before .before .before .before .args in
+    let w = back-refused (a .session .now) (a .k) (c .before .before .before .before .if1 .left) (omega (arith, c .before .before .kept .ensures, c .before .if2 .taken)) in
+    (c .refused2 .ensures ∙ w .0, w .1)
+
+cast-accepted : tie.Need-cast-accepted
+unfolding depth
+cast-accepted c = omega (arith, c .before .before .before .before .before .kept .ensures)
+
+returns-3 : tie.Need-returns-3
+returns-3 c = let a = c .before .before .before .before .before .before .before .before .before .before .args in
+    let w = back-taken (a .session .now) (a .k) (c .before .before .before .before .before .before .before .before .if1 .left) (omega (arith, c .before .before .before .before .before .before .kept .ensures, c .before .before .before .before .before .if2 .left)) in
+    (c .accepted .ensures ∙ ap (λ (n : ℕ). acceptedWith (n - a .k) 0 0) (c .before .before .before .before .before .before .kept .ensures) ∙ w .0, c .before .before .before .step-back .ensures ∙ w .1)
+
+pub step-back-spec : {M : Type 1} → statement M
+step-back-spec =
+    tie.close
+    (tie.spec
+    (λ c κs. search needs) returns (λ c κs. search needs) (λ c κs. search needs) (λ c. search needs) returns-2
+    (λ c κs. search needs) cast-accepted (λ c κs. search needs) (λ c. search needs) returns-3)

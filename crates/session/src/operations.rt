@@ -1,0 +1,166 @@
+// THE OPERATIONS on a lent session. Each judges first and then takes the effect in; a refusal changes no byte.
+use crate::judging;
+use crate::refusals;
+use crate::ruling::Answer;
+use crate::ruling::Ruling;
+use store::back;
+use store::emptied;
+use store::layout;
+use store::settled;
+use store::view;
+use trains::kinds::Loco;
+use trains::kinds::Ticket;
+ghost use mathlib.Core.Path.{_≡_};
+ghost use lib.ListN.{length};
+ghost use Rattle.store.specs.Effect.{InBounds};
+ghost use Rattle.store.specs.Layout.{sessionBytes};
+ghost use Rattle.session.specs.Rules.{Op};
+ghost use Rattle.session.specs.Answers.{taken, answerTo, bytesAfter, backAnswer, backAfter, startAnswer, startAfter};
+
+// The one way in which an accepted operation changes a session.
+fn commit(s: &mut [u8], counter: u32, ruling: Ruling) -> Answer
+    requires { ⌜ (length (now s) ≡ sessionBytes) × InBounds (ruling .effect) ⌝ }
+    ensures { λ r. ⌜ r ≡ ruling .answer ⌝ }
+    ensures { λ _. ⌜ now (s .exit) ≡ taken (now (s .entry)) counter ruling ⌝ }
+{
+    let answer = ruling.answer;
+    let effect = ruling.effect;
+    if answer.answer == 0 {
+        settled::settle(s, counter, effect);
+    }
+    answer
+}
+
+// Makes the empty session.
+pub fn start(session: &mut [u8]) -> Answer
+    ensures { λ r. ⌜ r ≡ startAnswer (now (session .entry)) ⌝ }
+    ensures { λ _. ⌜ now (session .exit) ≡ startAfter (now (session .entry)) ⌝ }
+{
+    if session.len() != layout::SESSION {
+        return Answer::refused(refusals::WRONG_LENGTH);
+    }
+    emptied::clear(session);
+    Answer::accepted(0, 0, 0)
+}
+
+// The ticket that is granted is the counter afterwards.
+pub fn request(session: &mut [u8], loco: Loco, bytes: u32) -> Answer
+    ensures { λ r. ⌜ r ≡ answerTo (now (session .entry)) (Op.request loco bytes) ⌝ }
+    ensures { λ _. ⌜ now (session .exit) ≡ bytesAfter (now (session .entry)) (Op.request loco bytes) ⌝ }
+{
+    if session.len() != layout::SESSION {
+        return Answer::refused(refusals::WRONG_LENGTH);
+    }
+    let ruling = judging::request(session, loco, bytes);
+    let ticket = ruling.answer.first;
+    commit(session, ticket, ruling)
+}
+
+pub fn release(session: &mut [u8], loco: Loco, ticket: Ticket) -> Answer
+    ensures { λ r. ⌜ r ≡ answerTo (now (session .entry)) (Op.release loco ticket) ⌝ }
+    ensures { λ _. ⌜ now (session .exit) ≡ bytesAfter (now (session .entry)) (Op.release loco ticket) ⌝ }
+{
+    if session.len() != layout::SESSION {
+        return Answer::refused(refusals::WRONG_LENGTH);
+    }
+    let ruling = judging::release(session, loco, ticket);
+    let counter = view::counter(session);
+    commit(session, counter, ruling)
+}
+
+pub fn flags(session: &mut [u8], loco: Loco, ticket: Ticket, bits: &[u8]) -> Answer
+    ensures { λ r. ⌜ r ≡ answerTo (now (session .entry)) (Op.flags loco ticket (now (bits .entry))) ⌝ }
+    ensures { λ _. ⌜ now (session .exit) ≡ bytesAfter (now (session .entry)) (Op.flags loco ticket (now (bits .entry))) ⌝ }
+{
+    if session.len() != layout::SESSION {
+        return Answer::refused(refusals::WRONG_LENGTH);
+    }
+    let ruling = judging::flags(session, loco, ticket, bits);
+    let counter = view::counter(session);
+    commit(session, counter, ruling)
+}
+
+pub fn position(session: &mut [u8], loco: Loco, ticket: Ticket, front: u32, rear: u32) -> Answer
+    ensures { λ r. ⌜ r ≡ answerTo (now (session .entry)) (Op.position loco ticket front rear) ⌝ }
+    ensures { λ _. ⌜ now (session .exit) ≡ bytesAfter (now (session .entry)) (Op.position loco ticket front rear) ⌝ }
+{
+    if session.len() != layout::SESSION {
+        return Answer::refused(refusals::WRONG_LENGTH);
+    }
+    let ruling = judging::position(session, loco, ticket, front, rear);
+    let counter = view::counter(session);
+    commit(session, counter, ruling)
+}
+
+pub fn authority(session: &mut [u8], loco: Loco, ticket: Ticket, end: u32) -> Answer
+    ensures { λ r. ⌜ r ≡ answerTo (now (session .entry)) (Op.authority loco ticket end) ⌝ }
+    ensures { λ _. ⌜ now (session .exit) ≡ bytesAfter (now (session .entry)) (Op.authority loco ticket end) ⌝ }
+{
+    if session.len() != layout::SESSION {
+        return Answer::refused(refusals::WRONG_LENGTH);
+    }
+    let ruling = judging::authority(session, loco, ticket, end);
+    let counter = view::counter(session);
+    commit(session, counter, ruling)
+}
+
+pub fn danger(session: &mut [u8], loco: Loco, ticket: Ticket, location: u32) -> Answer
+    ensures { λ r. ⌜ r ≡ answerTo (now (session .entry)) (Op.danger loco ticket location) ⌝ }
+    ensures { λ _. ⌜ now (session .exit) ≡ bytesAfter (now (session .entry)) (Op.danger loco ticket location) ⌝ }
+{
+    if session.len() != layout::SESSION {
+        return Answer::refused(refusals::WRONG_LENGTH);
+    }
+    let ruling = judging::danger(session, loco, ticket, location);
+    let counter = view::counter(session);
+    commit(session, counter, ruling)
+}
+
+pub fn clear(session: &mut [u8], loco: Loco, ticket: Ticket, other: Ticket) -> Answer
+    ensures { λ r. ⌜ r ≡ answerTo (now (session .entry)) (Op.clear loco ticket other) ⌝ }
+    ensures { λ _. ⌜ now (session .exit) ≡ bytesAfter (now (session .entry)) (Op.clear loco ticket other) ⌝ }
+{
+    if session.len() != layout::SESSION {
+        return Answer::refused(refusals::WRONG_LENGTH);
+    }
+    let ruling = judging::clear(session, loco, ticket, other);
+    let counter = view::counter(session);
+    commit(session, counter, ruling)
+}
+
+// SOS between L2, named first, and L1.
+pub fn sos(
+    session: &mut [u8],
+    loco2: Loco,
+    ticket2: Ticket,
+    loco1: Loco,
+    ticket1: Ticket,
+    grid: u32,
+) -> Answer
+    ensures { λ r. ⌜ r ≡ answerTo (now (session .entry)) (Op.sos loco2 ticket2 loco1 ticket1 grid) ⌝ }
+    ensures { λ _. ⌜ now (session .exit) ≡ bytesAfter (now (session .entry)) (Op.sos loco2 ticket2 loco1 ticket1 grid) ⌝ }
+{
+    if session.len() != layout::SESSION {
+        return Answer::refused(refusals::WRONG_LENGTH);
+    }
+    let ruling = judging::sos(session, loco2, ticket2, loco1, ticket1, grid);
+    let counter = view::counter(session);
+    commit(session, counter, ruling)
+}
+
+// Steps back by the latest k entries kept. The ticket counter stays.
+pub fn step_back(session: &mut [u8], k: u32) -> Answer
+    ensures { λ r. ⌜ r ≡ backAnswer (now (session .entry)) k ⌝ }
+    ensures { λ _. ⌜ now (session .exit) ≡ backAfter (now (session .entry)) k ⌝ }
+{
+    if session.len() != layout::SESSION {
+        return Answer::refused(refusals::WRONG_LENGTH);
+    }
+    let kept = view::kept(session);
+    let steps = k as usize;
+    if kept < steps {
+        return Answer::refused(refusals::TOO_FAR_BACK);
+    }
+    back::step_back(session, steps);
+    Answer::accepted((kept - steps) as u32, 0, 0)
+}

@@ -1,0 +1,161 @@
+-- Laws of the slot book: slots marked in a session's bytes are slots marked in its book.
+use Prim.Native.Nat.{ℕ, zero, suc, _+_, _-_, _≤_, _<_}
+use mathlib.Core.Bool.{Bool, true, false, cond, not}
+use mathlib.Core.List.{List}
+use mathlib.Core.Logic.{⊎-elim, inl, inr}
+use mathlib.Core.Path.{_≡_, refl, sym, ap, _∙_}
+use native.Mathlib.Decide.{ℕ-discrete}
+use native.Mathlib.Omega.{arith}
+use lib.Dec.{eqb}
+use lib.ListN.{length, getD, set, length-set}
+use lib.Seq.{sets, length-sets, getD-set-same, getD-set-other, ext-getD}
+use Rattle.trains.specs.Kinds.{lastSlot}
+use Rattle.trains.specs.Ranges.{oneTo}
+use Rattle.trains.proofs.RangeLaws.{one-to}
+use Rattle.store.specs.Effect.{slotMarked, marked}
+use Rattle.store.specs.Layout.{bookAt, rowsAt}
+use Rattle.store.specs.Settled.{bookMarked}
+use Rattle.store.specs.View.{bookOf, isTaken}
+use Rattle.store.proofs.Stretches.{Outside, sets-out, sets-in, sets-like, stretch-at, length-stretch}
+
+-- ---- the book by itself
+
+pub length-slot-marked : (book : List ℕ) (slot mark : ℕ) → length (slotMarked book slot mark) ≡ length book
+unfolding slotMarked
+length-slot-marked book slot mark = by (oneTo lastSlot slot)
+  where
+    by : (b : Bool) → length (cond b (set book (slot - 1) mark) book) ≡ length book
+    by true = length-set book (slot - 1) mark
+    by false = refl
+
+pub length-marked : (book : List ℕ) (slot n mark : ℕ) → length (marked book slot n mark) ≡ length book
+unfolding marked
+length-marked book slot zero mark = refl
+length-marked book slot (suc n) mark = length-marked (slotMarked book slot mark) (suc slot) n mark ∙ length-slot-marked book slot mark
+
+-- past the last slot there is none to mark
+pub marked-past : (book : List ℕ) (slot n mark : ℕ) → lastSlot < slot → marked book slot n mark ≡ book
+unfolding marked slotMarked
+marked-past book slot zero mark h = refl
+marked-past book slot (suc n) mark h = by (oneTo lastSlot slot) refl (marked-past book (suc slot) n mark (omega arith))
+  where
+    by : (b : Bool) → oneTo lastSlot slot ≡ b → marked book (suc slot) n mark ≡ book
+        → marked (cond b (set book (slot - 1) mark) book) (suc slot) n mark ≡ book
+    by true e rest = absurd (omega (arith, one-to lastSlot slot e .1))
+    by false e rest = rest
+
+pub marked-zero : (book : List ℕ) (slot mark : ℕ) → marked book slot 0 mark ≡ book
+unfolding marked
+marked-zero book slot mark = refl
+
+-- one slot, and the rest
+pub marked-suc : (book : List ℕ) (slot n mark : ℕ) → marked book slot (suc n) mark ≡ marked (marked book slot 1 mark) (suc slot) n mark
+unfolding marked
+marked-suc book slot n mark = refl
+
+-- ---- the book in the bytes
+
+module _ (bs : List ℕ) (room : rowsAt ≤ length bs) where
+  pub length-book : length (bookOf bs) ≡ lastSlot
+  length-book = length-stretch bs lastSlot bookAt room
+
+  -- the book put is the book read
+  pub book-back : (b : List ℕ) → length b ≡ lastSlot → bookOf (sets bs bookAt b) ≡ b
+  book-back b e =
+      ext-getD 0 (bookOf (sets bs bookAt b)) b
+      (length-stretch (sets bs bookAt b) lastSlot bookAt (rw length-sets room) ∙ sym e)
+      (λ k l.
+      let m : k < lastSlot = omega (arith, length-stretch (sets bs bookAt b) lastSlot bookAt (rw length-sets room)) in
+      stretch-at (sets bs bookAt b) lastSlot bookAt k m ∙ sets-in bs bookAt b k (omega arith) (omega arith))
+
+  -- the book as it is put back changes nothing
+  pub book-same : bs ≡ sets bs bookAt (bookOf bs)
+  book-same =
+      sets-like bs bs bookAt (bookOf bs) (omega (arith, length-book)) refl
+      (λ k l. sym (stretch-at bs lastSlot bookAt k (omega (arith, length-book))))
+      (λ k o. refl)
+
+  -- the book put twice
+  pub book-twice : (b d : List ℕ) → length b ≡ lastSlot → length d ≡ lastSlot → sets (sets bs bookAt b) bookAt d ≡ sets bs bookAt d
+  book-twice b d e f =
+      let l : length (sets bs bookAt b) ≡ length bs = length-sets bs bookAt b in
+      sets-like (sets (sets bs bookAt b) bookAt d) bs bookAt d (omega arith)
+      (length-sets (sets bs bookAt b) bookAt d ∙ l)
+      (λ k m. sets-in (sets bs bookAt b) bookAt d k (omega arith) m)
+      (λ k o.
+      sets-out (sets bs bookAt b) bookAt d k o
+      ∙ sets-out bs bookAt b k (⊎-elim (λ a. inl a) (λ a. inr (omega arith)) o))
+
+  -- one byte of the book stored
+  pub book-byte : (j mark : ℕ) → j < lastSlot → set bs (bookAt + j) mark ≡ sets bs bookAt (set (bookOf bs) j mark)
+  book-byte j mark h =
+      let lb : length (set (bookOf bs) j mark) ≡ lastSlot = length-set (bookOf bs) j mark ∙ length-book in
+      sets-like (set bs (bookAt + j) mark) bs bookAt (set (bookOf bs) j mark) (omega arith) (length-set bs (bookAt + j) mark)
+      (λ k l. at k (omega arith) (ℕ-discrete k j))
+      (λ k o. getD-set-other bs (bookAt + j) k mark 0 (λ e. ⊎-elim (λ a. omega arith) (λ a. omega arith) o))
+    where
+      at : (k : ℕ) → k < lastSlot → Dec (k ≡ j) → getD (set bs (bookAt + j) mark) (bookAt + k) 0 ≡ getD (set (bookOf bs) j mark) k 0
+      at k l (yes e) =
+          rw e
+          (getD-set-same bs (bookAt + j) mark 0 (omega arith)
+          ∙ sym (getD-set-same (bookOf bs) j mark 0 (omega (arith, length-book))))
+      at k l (no ne) =
+          getD-set-other bs (bookAt + j) (bookAt + k) mark 0 (λ e. ne (omega arith))
+          ∙ sym (getD-set-other (bookOf bs) j k mark 0 ne ∙ stretch-at bs lastSlot bookAt k l)
+
+  -- a slot that is one of the book's marked
+  pub slot-stored : (slot mark : ℕ) → oneTo lastSlot slot ≡ true → set bs (bookAt + (slot - 1)) mark ≡ bookMarked bs slot 1 mark
+  unfolding bookMarked marked slotMarked
+  slot-stored slot mark e =
+      let r : (1 ≤ slot) × (slot ≤ lastSlot) = one-to lastSlot slot e in
+      rw e (book-byte (slot - 1) mark (omega arith))
+
+  -- and one that is not
+  pub slot-passed : (slot mark : ℕ) → oneTo lastSlot slot ≡ false → bs ≡ bookMarked bs slot 1 mark
+  unfolding bookMarked marked slotMarked
+  slot-passed slot mark e = rw e book-same
+
+  pub book-marked-zero : (slot mark : ℕ) → bookMarked bs slot 0 mark ≡ bs
+  unfolding bookMarked
+  book-marked-zero slot mark = ap (sets bs bookAt) (marked-zero (bookOf bs) slot mark) ∙ sym book-same
+
+  pub book-marked-past : (slot n mark : ℕ) → lastSlot < slot → bookMarked bs slot n mark ≡ bs
+  unfolding bookMarked
+  book-marked-past slot n mark h = ap (sets bs bookAt) (marked-past (bookOf bs) slot n mark h) ∙ sym book-same
+
+  -- one slot, and the rest
+  pub book-marked-suc : (slot n mark : ℕ) → bookMarked (bookMarked bs slot 1 mark) (suc slot) n mark ≡ bookMarked bs slot (suc n) mark
+  unfolding bookMarked
+  book-marked-suc slot n mark =
+      let b : List ℕ = marked (bookOf bs) slot 1 mark in
+      let lb : length b ≡ lastSlot = length-marked (bookOf bs) slot 1 mark ∙ length-book in
+      ap (λ (x : List ℕ). sets (sets bs bookAt b) bookAt (marked x (suc slot) n mark)) (book-back b lb)
+      ∙ book-twice b (marked b (suc slot) n mark) lb (length-marked b (suc slot) n mark ∙ lb)
+      ∙ ap (sets bs bookAt) (sym (marked-suc (bookOf bs) slot n mark))
+
+  -- the book after it
+  pub book-marked : (slot n mark : ℕ) → bookOf (bookMarked bs slot n mark) ≡ marked (bookOf bs) slot n mark
+  unfolding bookMarked
+  book-marked slot n mark = book-back (marked (bookOf bs) slot n mark) (length-marked (bookOf bs) slot n mark ∙ length-book)
+
+  -- all else stays
+  pub book-marked-out : (slot n mark k : ℕ) → Outside bookAt lastSlot k → getD (bookMarked bs slot n mark) k 0 ≡ getD bs k 0
+  unfolding bookMarked
+  book-marked-out slot n mark k o =
+      let lb : length (marked (bookOf bs) slot n mark) ≡ lastSlot = length-marked (bookOf bs) slot n mark ∙ length-book in
+      sets-out bs bookAt (marked (bookOf bs) slot n mark) k (⊎-elim (λ a. inl a) (λ a. inr (omega arith)) o)
+
+-- ---- a slot that is taken
+
+-- one that is none of the book's is not
+pub not-in-book : (bs : List ℕ) (slot : ℕ) → oneTo lastSlot slot ≡ false → isTaken (bookOf bs) slot ≡ false
+unfolding isTaken
+not-in-book bs slot e = rw e
+
+-- and one of the book's is, where its byte is not 0
+pub taken-by : (bs : List ℕ) (slot : ℕ) → oneTo lastSlot slot ≡ true
+    → not (eqb (getD bs (bookAt + (slot - 1)) 0) 0) ≡ isTaken (bookOf bs) slot
+unfolding isTaken
+taken-by bs slot e =
+    let r : (1 ≤ slot) × (slot ≤ lastSlot) = one-to lastSlot slot e in
+    rw (e, stretch-at bs lastSlot bookAt (slot - 1) (omega arith))

@@ -1,0 +1,153 @@
+-- Laws of effects on the view: what an effect changes and what it leaves, and that undoing what was saved gives the view back.
+use Prim.Native.Nat.{ℕ, zero, suc, _+_, _-_, _≤_, _<_}
+use mathlib.Core.Bool.{Bool, true, false, cond, not, _&&_}
+use mathlib.Core.List.{List}
+use mathlib.Core.Logic.{⊎-elim, _⊎_, inl, inr, _≢_}
+use mathlib.Core.Path.{_≡_, refl, ap, _∙_}
+use native.Mathlib.Decide.{ℕ-discrete}
+use native.Mathlib.Omega.{arith}
+use lib.Dec.{eqb}
+use lib.ListN.{length, getD, set, length-set}
+use lib.Seq.{ext-getD, getD-set-same, getD-set-other}
+use Rattle.packets.proofs.FieldLaws.{lt-or-le}
+use Rattle.trains.specs.Kinds.{lastSlot}
+use Rattle.trains.specs.Ranges.{oneTo}
+use Rattle.trains.specs.Record.{blankTrain}
+use Rattle.trains.specs.declared.record.Train.{Train}
+use Rattle.trains.proofs.RangeLaws.{one-to}
+use Rattle.store.specs.declared.effect.Effect.{Effect}
+use Rattle.store.specs.Effect.{slotMarked, marked, applied}
+use Rattle.store.specs.Log.{saved, undone}
+use Rattle.store.specs.View.{View, rowIn, isTaken}
+use Rattle.store.proofs.BookLaws.{length-marked, length-slot-marked}
+
+-- ---- rows
+
+-- as many rows as before
+pub applied-rows : (v : View) (e : Effect) → length (applied v e .rows) ≡ length (v .rows)
+unfolding applied
+applied-rows v e = length-set (set (v .rows) (e .one .row) (e .one .train)) (e .other .row) (e .other .train) ∙ length-set (v .rows) (e .one .row) (e .one .train)
+
+-- the second change's row is its record
+pub applied-other : (v : View) (e : Effect) → e .other .row < length (v .rows) → rowIn (applied v e) (e .other .row) ≡ e .other .train
+unfolding applied
+applied-other v e h =
+    getD-set-same (set (v .rows) (e .one .row) (e .one .train)) (e .other .row) (e .other .train) blankTrain
+    (rw (length-set (v .rows) (e .one .row) (e .one .train)) h)
+
+-- and the first one's, where it is another row
+pub applied-one : (v : View) (e : Effect) → e .one .row < length (v .rows) → e .one .row ≢ e .other .row → rowIn (applied v e) (e .one .row) ≡ e .one .train
+unfolding applied
+applied-one v e h ne =
+    getD-set-other (set (v .rows) (e .one .row) (e .one .train)) (e .other .row) (e .one .row) (e .other .train) blankTrain ne
+    ∙ getD-set-same (v .rows) (e .one .row) (e .one .train) blankTrain h
+
+-- every other row stays
+pub applied-row-stays : (v : View) (e : Effect) (j : ℕ) → j ≢ e .one .row → j ≢ e .other .row → rowIn (applied v e) j ≡ rowIn v j
+unfolding applied
+applied-row-stays v e j n m =
+    getD-set-other (set (v .rows) (e .one .row) (e .one .train)) (e .other .row) j (e .other .train) blankTrain m
+    ∙ getD-set-other (v .rows) (e .one .row) j (e .one .train) blankTrain n
+
+-- ---- the book
+
+-- as many slots as before
+pub applied-book : (v : View) (e : Effect) → length (applied v e .book) ≡ length (v .book)
+unfolding applied
+applied-book v e = length-marked (v .book) (e .start .0) (e .slots) (e .mark)
+
+slot-stays : (book : List ℕ) (slot mark other : ℕ) → 1 ≤ other → other ≢ slot → getD (slotMarked book slot mark) (other - 1) 0 ≡ getD book (other - 1) 0
+unfolding slotMarked
+slot-stays book slot mark other h ne = by (oneTo lastSlot slot) refl
+  where
+    by : (b : Bool) → oneTo lastSlot slot ≡ b → getD (cond b (set book (slot - 1) mark) book) (other - 1) 0 ≡ getD book (other - 1) 0
+    by true e =
+        let r : (1 ≤ slot) × (slot ≤ lastSlot) = one-to lastSlot slot e in
+        getD-set-other book (slot - 1) (other - 1) mark 0 (λ q. ne (omega arith))
+    by false e = refl
+
+-- a slot outside the run stays
+pub marked-stays : (book : List ℕ) (slot n mark other : ℕ) → 1 ≤ other → (other < slot) ⊎ (slot + n ≤ other)
+    → getD (marked book slot n mark) (other - 1) 0 ≡ getD book (other - 1) 0
+unfolding marked
+marked-stays book slot zero mark other h o = refl
+marked-stays book slot (suc n) mark other h o =
+    marked-stays (slotMarked book slot mark) (suc slot) n mark other h (⊎-elim (λ a. inl (omega arith)) (λ a. inr (omega arith)) o)
+    ∙ slot-stays book slot mark other h (λ e. ⊎-elim (λ a. omega arith) (λ a. omega arith) o)
+
+-- and is taken as before
+pub taken-stays : (book : List ℕ) (slot n mark other : ℕ) → (other < slot) ⊎ (slot + n ≤ other)
+    → isTaken (marked book slot n mark) other ≡ isTaken book other
+unfolding isTaken
+taken-stays book slot n mark other o = by (oneTo lastSlot other) refl
+  where
+    by : (b : Bool) → oneTo lastSlot other ≡ b
+        → (b && not (eqb (getD (marked book slot n mark) (other - 1) 0) 0)) ≡ (b && not (eqb (getD book (other - 1) 0) 0))
+    by true e = ap (λ (x : ℕ). not (eqb x 0)) (marked-stays book slot n mark other (one-to lastSlot other e .0) o)
+    by false e = refl
+
+marked-here : (book : List ℕ) (slot mark : ℕ) → oneTo lastSlot slot ≡ true → lastSlot ≤ length book → getD (slotMarked book slot mark) (slot - 1) 0 ≡ mark
+unfolding slotMarked
+marked-here book slot mark e room =
+    let r : (1 ≤ slot) × (slot ≤ lastSlot) = one-to lastSlot slot e in
+    rw e (getD-set-same book (slot - 1) mark 0 (omega arith))
+
+-- a slot of the run has the mark
+pub marked-run : (book : List ℕ) (slot n mark other : ℕ) → lastSlot ≤ length book → oneTo lastSlot other ≡ true → slot ≤ other → other < slot + n
+    → getD (marked book slot n mark) (other - 1) 0 ≡ mark
+unfolding marked
+marked-run book slot zero mark other room e a b = absurd (omega arith)
+marked-run book slot (suc n) mark other room e a b =
+    let r : (1 ≤ other) × (other ≤ lastSlot) = one-to lastSlot other e in
+    ⊎-elim
+    (λ l. marked-run (slotMarked book slot mark) (suc slot) n mark other (omega (arith, length-slot-marked book slot mark)) e l (omega arith))
+    (λ l.
+    let same : slot ≡ other = omega arith in
+    marked-stays (slotMarked book slot mark) (suc slot) n mark other (omega arith) (inl (omega arith))
+    ∙ ap (λ (x : ℕ). getD (slotMarked book x mark) (other - 1) 0) same
+    ∙ marked-here book other mark e room)
+    (lt-or-le slot other)
+
+-- ---- undone
+
+-- two rows stored, and put back
+rows-back : (rows : List Train) (i j : ℕ) (a b : Train) → i < length rows → j < length rows
+    → set (set (set (set rows i a) j b) i (getD rows i blankTrain)) j (getD rows j blankTrain) ≡ rows
+rows-back rows i j a b hi hj =
+    ext-getD blankTrain (set three j (getD rows j blankTrain)) rows (size three j (getD rows j blankTrain) ∙ size-three)
+    (λ k l. at k (ℕ-discrete k j) (ℕ-discrete k i))
+  where
+    one : List Train
+    one = set rows i a
+
+    two : List Train
+    two = set one j b
+
+    three : List Train
+    three = set two i (getD rows i blankTrain)
+
+    size : (l : List Train) (k : ℕ) (t : Train) → length (set l k t) ≡ length l
+    size l k t = length-set l k t
+
+    size-two : length two ≡ length rows
+    size-two = size one j b ∙ size rows i a
+
+    size-three : length three ≡ length rows
+    size-three = size two i (getD rows i blankTrain) ∙ size-two
+
+    at : (k : ℕ) → Dec (k ≡ j) → Dec (k ≡ i) → getD (set three j (getD rows j blankTrain)) k blankTrain ≡ getD rows k blankTrain
+    at k (yes e) d = rw e (getD-set-same three j (getD rows j blankTrain) blankTrain (omega (arith, size-three)))
+    at k (no ne) (yes e) =
+        getD-set-other three j k (getD rows j blankTrain) blankTrain ne
+        ∙ rw e (getD-set-same two i (getD rows i blankTrain) blankTrain (omega (arith, size-two)))
+    at k (no ne) (no nf) =
+        getD-set-other three j k (getD rows j blankTrain) blankTrain ne
+        ∙ getD-set-other two i k (getD rows i blankTrain) blankTrain nf
+        ∙ getD-set-other one j k b blankTrain ne
+        ∙ getD-set-other rows i k a blankTrain nf
+
+-- UNDOING WHAT WAS SAVED GIVES THE VIEW BACK
+pub undo-save : (v : View) (e : Effect) → e .one .row < length (v .rows) → e .other .row < length (v .rows) → undone (saved v e) (applied v e) ≡ v
+unfolding undone saved applied
+undo-save v e hi hj =
+    λ k. record { rows = rows-back (v .rows) (e .one .row) (e .other .row) (e .one .train) (e .other .train) hi hj k; book = v .book }

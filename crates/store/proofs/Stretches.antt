@@ -1,0 +1,141 @@
+-- Stretches of bytes: what a run of stores puts and what it leaves, and copies made of one.
+use Prim.Native.Nat.{ℕ, zero, suc, _+_, _-_, _≤_, _<_}
+use mathlib.Core.List.{List, [], _∷_}
+use mathlib.Core.Logic.{⊎-elim, _⊎_, inl, inr}
+use mathlib.Core.Path.{_≡_, refl, sym, ap, _∙_}
+use native.Mathlib.Decide.{ℕ-discrete}
+use native.Mathlib.Omega.{arith}
+use lib.ListN.{length, getD, set, take, drop, length-take, length-drop, length-set, List·getD-eq-default}
+use lib.Seq.{sets, length-sets, take-suc, getD-take, getD-drop, getD-set-same, getD-set-other, set-out, ext-getD}
+use Rattle.packets.proofs.FieldLaws.{Bytes, lt-or-le}
+use Rattle.packets.proofs.RowLaws.{sets-append}
+use Rattle.store.specs.Copied.{copied, Apart}
+
+-- what stands before a run of n bytes at i, or behind it
+abbrev pub Outside : ℕ → ℕ → ℕ → Type 0
+Outside i n k = (k < i) ⊎ (i + n ≤ k)
+
+-- a byte outside a run of stores stays
+pub sets-out : (l : List ℕ) (i : ℕ) (vs : List ℕ) (k : ℕ) → Outside i (length vs) k → getD (sets l i vs) k 0 ≡ getD l k 0
+sets-out l i [] k h = refl
+sets-out l i (a ∷ vs) k h =
+    sets-out (set l i a) (suc i) vs k (⊎-elim (λ b. inl (omega arith)) (λ b. inr (omega arith)) h)
+    ∙ getD-set-other l i k a 0 (λ e. ⊎-elim (λ b. omega arith) (λ b. omega arith) h)
+
+-- a byte of the run is what was stored
+pub sets-in : (l : List ℕ) (i : ℕ) (vs : List ℕ) (k : ℕ) → i + length vs ≤ length l → k < length vs
+    → getD (sets l i vs) (i + k) 0 ≡ getD vs k 0
+sets-in l i [] k h m = absurd (omega arith)
+sets-in l i (a ∷ vs) zero h m =
+    let e : i + 0 ≡ i = omega arith in
+    ap (λ (n : ℕ). getD (sets (set l i a) (suc i) vs) n 0) e
+    ∙ sets-out (set l i a) (suc i) vs i (inl (omega arith))
+    ∙ getD-set-same l i a 0 (omega arith)
+sets-in l i (a ∷ vs) (suc k) h m =
+    let e : i + suc k ≡ suc i + k = omega arith in
+    ap (λ (n : ℕ). getD (sets (set l i a) (suc i) vs) n 0) e
+    ∙ sets-in (set l i a) (suc i) vs k (rw length-set (omega arith)) (omega arith)
+
+-- a list that has the values where they go, and all else as it was, is the list after the stores
+pub sets-like : (m l : List ℕ) (i : ℕ) (vs : List ℕ) → i + length vs ≤ length l → length m ≡ length l
+    → ((k : ℕ) → k < length vs → getD m (i + k) 0 ≡ getD vs k 0)
+    → ((k : ℕ) → Outside i (length vs) k → getD m k 0 ≡ getD l k 0)
+    → m ≡ sets l i vs
+sets-like m l i vs h e here there = ext-getD 0 m (sets l i vs) (e ∙ sym (length-sets l i vs)) (λ k b. at k (lt-or-le k i) (lt-or-le k (i + length vs)))
+  where
+    out : (k : ℕ) → Outside i (length vs) k → getD m k 0 ≡ getD (sets l i vs) k 0
+    out k o = there k o ∙ sym (sets-out l i vs k o)
+
+    at : (k : ℕ) → (k < i) ⊎ (i ≤ k) → (k < i + length vs) ⊎ (i + length vs ≤ k) → getD m k 0 ≡ getD (sets l i vs) k 0
+    at k (inl a) b = out k (inl a)
+    at k (inr a) (inr b) = out k (inr b)
+    at k (inr a) (inl b) =
+        let d : ℕ = k - i in
+        let f : k ≡ i + d = omega arith in
+        rw f (here d (omega arith) ∙ sym (sets-in l i vs d h (omega arith)))
+
+-- two lists with the same bytes from a byte on, n of them, have the same stretch there
+pub stretch-same : (s t : List ℕ) (a b n : ℕ) → a + n ≤ length s → b + n ≤ length t
+    → ((k : ℕ) → k < n → getD s (a + k) 0 ≡ getD t (b + k) 0) → take n (drop a s) ≡ take n (drop b t)
+stretch-same s t a b n hs ht h =
+    let ls : length (take n (drop a s)) ≡ n = length-take n (drop a s) ∙ rw length-drop (omega arith) in
+    let lt : length (take n (drop b t)) ≡ n = length-take n (drop b t) ∙ rw length-drop (omega arith) in
+    ext-getD 0 (take n (drop a s)) (take n (drop b t)) (ls ∙ sym lt)
+    (λ k l.
+    let m : k < n = omega arith in
+    getD-take n (drop a s) k 0 m ∙ getD-drop a s k 0 ∙ h k m ∙ sym (getD-take n (drop b t) k 0 m ∙ getD-drop b t k 0))
+
+-- ---- bytes stay bytes
+
+pub bytes-set : (l : List ℕ) (i a : ℕ) → Bytes l → a < 256 → Bytes (set l i a)
+bytes-set l i a h m k = at (ℕ-discrete k i) (lt-or-le i (length l))
+  where
+    at : Dec (k ≡ i) → (i < length l) ⊎ (length l ≤ i) → getD (set l i a) k 0 < 256
+    at (no ne) r = rw (getD-set-other l i k a 0 ne) (h k)
+    at (yes e) (inl r) = rw (e, getD-set-same l i a 0 r) m
+    at (yes e) (inr r) = rw (set-out l i a r) (h k)
+
+pub bytes-sets : (l : List ℕ) (i : ℕ) (vs : List ℕ) → Bytes l → Bytes vs → Bytes (sets l i vs)
+bytes-sets l i [] h v = h
+bytes-sets l i (a ∷ vs) h v = bytes-sets (set l i a) (suc i) vs (bytes-set l i a h (v 0)) (λ k. v (suc k))
+
+-- a stretch, of whatever bytes there are
+pub bytes-stretch : (bs : List ℕ) (n from : ℕ) → Bytes bs → Bytes (take n (drop from bs))
+bytes-stretch bs n from h k = at (lt-or-le k n)
+  where
+    at : (k < n) ⊎ (n ≤ k) → getD (take n (drop from bs)) k 0 < 256
+    at (inl l) = rw (getD-take n (drop from bs) k 0 l, getD-drop from bs k 0) (h (from + k))
+    at (inr l) = rw (List·getD-eq-default (take n (drop from bs)) 0 {n = k} (omega (arith, length-take n (drop from bs)))) (omega arith)
+
+-- ---- copies
+
+pub length-stretch : (bs : List ℕ) (n from : ℕ) → from + n ≤ length bs → length (take n (drop from bs)) ≡ n
+length-stretch bs n from h = length-take n (drop from bs) ∙ rw length-drop (omega arith)
+
+pub stretch-at : (bs : List ℕ) (n from k : ℕ) → k < n → getD (take n (drop from bs)) k 0 ≡ getD bs (from + k) 0
+stretch-at bs n from k h = getD-take n (drop from bs) k 0 h ∙ getD-drop from bs k 0
+
+pub length-copied : (bs : List ℕ) (n from to : ℕ) → length (copied bs n from to) ≡ length bs
+unfolding copied
+length-copied bs n from to = length-sets bs to (take n (drop from bs))
+
+module _ (bs : List ℕ) (n from to : ℕ) (h : from + n ≤ length bs) where
+  -- a byte outside the target stays
+  pub copied-out : (k : ℕ) → Outside to n k → getD (copied bs n from to) k 0 ≡ getD bs k 0
+  unfolding copied
+  copied-out k o =
+      let e : length (take n (drop from bs)) ≡ n = length-stretch bs n from h in
+      sets-out bs to (take n (drop from bs)) k (⊎-elim (λ b. inl b) (λ b. inr (omega arith)) o)
+
+  -- a byte of the target is that of the source
+  pub copied-in : (k : ℕ) → to + n ≤ length bs → k < n → getD (copied bs n from to) (to + k) 0 ≡ getD bs (from + k) 0
+  unfolding copied
+  copied-in k g l =
+      let e : length (take n (drop from bs)) ≡ n = length-stretch bs n from h in
+      sets-in bs to (take n (drop from bs)) k (omega arith) (omega arith) ∙ stretch-at bs n from k l
+
+-- bytes stay bytes
+pub bytes-copied : (bs : List ℕ) (n from to : ℕ) → Bytes bs → Bytes (copied bs n from to)
+unfolding copied
+bytes-copied bs n from to h = bytes-sets bs to (take n (drop from bs)) h (bytes-stretch bs n from h)
+
+-- nothing copied
+pub copied-zero : (bs : List ℕ) (from to : ℕ) → copied bs 0 from to ≡ bs
+unfolding copied
+copied-zero bs from to = refl
+
+-- one byte more, taken from the bytes as they are by then
+pub copied-suc : (bs : List ℕ) (n from to i : ℕ) → Apart n from to (length bs) → i < n
+    → set (copied bs i from to) (to + i) (getD (copied bs i from to) (from + i) 0) ≡ copied bs (suc i) from to
+unfolding copied
+copied-suc bs n from to i h l =
+    let v : List ℕ = take i (drop from bs) in
+    let lv : length v ≡ i = length-stretch bs i from (omega (arith, h .source)) in
+    let ld : i < length (drop from bs) = rw length-drop (omega (arith, h .source)) in
+    let stays : getD (sets bs to v) (from + i) 0 ≡ getD (drop from bs) i 0 =
+    sets-out bs to v (from + i) (⊎-elim (λ a. inl (omega arith)) (λ a. inr (omega arith)) (h .apart)) ∙ sym (getD-drop from bs i 0) in
+    rw stays
+    (sym
+    (ap (sets bs to) (take-suc (drop from bs) i 0 ld)
+    ∙ sets-append bs to v (getD (drop from bs) i 0 ∷ [])
+    ∙ ap (λ (n : ℕ). set (sets bs to v) (to + n) (getD (drop from bs) i 0)) lv))

@@ -1,0 +1,108 @@
+// An effect taken into the bytes: the entry that undoes it is kept first, then the header, the book and the rows are put.
+use crate::copied;
+use crate::effect::Change;
+use crate::effect::Effect;
+use crate::layout;
+use crate::view;
+use packets::numbers;
+use rows::row;
+use trains::kinds::LAST_SLOT;
+use trains::kinds::Slot;
+ghost use mathlib.Core.Path.{_≡_};
+ghost use Prim.Native.Nat.{_+_, _^_, _<_, _≤_};
+ghost use lib.ListN.{length};
+ghost use Rattle.rows.specs.Register.{rowCount};
+ghost use Rattle.store.specs.Effect.{InBounds};
+ghost use Rattle.store.specs.Layout.{sessionBytes, logAt, entryBytes, keptRowBytes};
+ghost use Rattle.store.specs.Settled.{rowKept, entryKept, headed, bookMarked, changePut, pushed, settled};
+
+// A row's number and the row, kept in the log from a byte on.
+fn keep_row(s: &mut [u8], i: usize, at: usize)
+    requires { ⌜ (length (now s) ≡ sessionBytes) × (i < rowCount) × (logAt ≤ at) × (at + keptRowBytes ≤ sessionBytes) ⌝ }
+    ensures { λ _. ⌜ now (s .exit) ≡ rowKept (now (s .entry)) i at ⌝ }
+{
+    numbers::put_byte(s, at, i as u32);
+    copied::copy_bytes(s, row::ROW, layout::row_place(i), at + 1);
+}
+
+// The book and two rows, kept in the entry that starts at a byte.
+fn keep_entry(s: &mut [u8], i: usize, j: usize, at: usize)
+    requires { ⌜ (length (now s) ≡ sessionBytes) × (i < rowCount) × (j < rowCount) × (logAt ≤ at) × (at + entryBytes ≤ sessionBytes) ⌝ }
+    ensures { λ _. ⌜ now (s .exit) ≡ entryKept (now (s .entry)) i j at ⌝ }
+{
+    copied::copy_bytes(s, layout::BOOK_BYTES, layout::BOOK, at);
+    keep_row(s, i, at + layout::ONE);
+    keep_row(s, j, at + layout::OTHER);
+}
+
+pub(crate) fn put_header(s: &mut [u8], counter: u32, kept: usize, head: usize)
+    requires { ⌜ (kept < 2 ^ 32) × (head < 2 ^ 32) ⌝ }
+    ensures { λ _. ⌜ now (s .exit) ≡ headed (now (s .entry)) counter kept head ⌝ }
+{
+    numbers::put_word(s, layout::COUNTER, counter);
+    numbers::put_word(s, layout::KEPT, kept as u32);
+    numbers::put_word(s, layout::HEAD, head as u32);
+}
+
+// The entry of two rows pushed, and the counter set.
+fn push(s: &mut [u8], counter: u32, i: usize, j: usize)
+    requires { ⌜ (length (now s) ≡ sessionBytes) × (i < rowCount) × (j < rowCount) ⌝ }
+    ensures { λ _. ⌜ now (s .exit) ≡ pushed (now (s .entry)) counter i j ⌝ }
+{
+    let head = view::head(s);
+    let kept = replay::kept_after(view::kept(s));
+    keep_entry(s, i, j, layout::entry_place(head));
+    put_header(s, counter, kept, replay::place_after(head));
+}
+
+// A slot marked in the book; one that is none of the book's marks nothing.
+fn mark_slot(s: &mut [u8], slot: Slot, mark: u32)
+    requires { ⌜ (length (now s) ≡ sessionBytes) × (mark < 256) ⌝ }
+    ensures { λ _. ⌜ now (s .exit) ≡ bookMarked (now (s .entry)) (slot .0) 1 mark ⌝ }
+{
+    if slot.in_range() {
+        s[layout::BOOK + (slot.0 as usize - 1)] = mark as u8;
+    }
+}
+
+// `n` slots from one on marked. Past the last slot there is none left to mark.
+fn mark_slots(s: &mut [u8], first: u32, n: u32, mark: u32)
+    requires { ⌜ (length (now s) ≡ sessionBytes) × (mark < 256) ⌝ }
+    ensures { λ _. ⌜ now (s .exit) ≡ bookMarked (now (s .entry)) first n mark ⌝ }
+{
+    let mut slot = first;
+    let mut left = n;
+    while left > 0 && slot <= LAST_SLOT {
+        mark_slot(s, Slot(slot), mark);
+        slot += 1;
+        left -= 1;
+    }
+}
+
+fn put_change(s: &mut [u8], change: Change)
+    requires { ⌜ change .row < rowCount ⌝ }
+    ensures { λ _. ⌜ now (s .exit) ≡ changePut (now (s .entry)) change ⌝ }
+{
+    let train = change.train;
+    row::put_row(s, layout::row_place(change.row), train);
+}
+
+fn put_changes(s: &mut [u8], one: Change, other: Change)
+    requires { ⌜ (one .row < rowCount) × (other .row < rowCount) ⌝ }
+    ensures { λ _. ⌜ now (s .exit) ≡ changePut (changePut (now (s .entry)) one) other ⌝ }
+{
+    put_change(s, one);
+    put_change(s, other);
+}
+
+// The one way in which an accepted operation changes a session.
+pub fn settle(s: &mut [u8], counter: u32, effect: Effect)
+    requires { ⌜ (length (now s) ≡ sessionBytes) × InBounds effect ⌝ }
+    ensures { λ _. ⌜ now (s .exit) ≡ settled (now (s .entry)) counter effect ⌝ }
+{
+    let one = effect.one;
+    let other = effect.other;
+    push(s, counter, one.row, other.row);
+    mark_slots(s, effect.start.0, effect.slots, effect.mark);
+    put_changes(s, one, other);
+}

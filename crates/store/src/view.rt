@@ -1,0 +1,78 @@
+// What a session's bytes stand for: the numbers of the header, the trains in the rows, and the slots that are taken. Nothing is changed here,
+// and any bytes are read.
+use crate::layout;
+use packets::numbers;
+use rows::register;
+use rows::row;
+use trains::found::Found;
+use trains::kinds::Loco;
+use trains::kinds::Slot;
+use trains::kinds::Ticket;
+use trains::record::Train;
+ghost use mathlib.Core.Path.{_≡_};
+ghost use Rattle.rows.specs.declared.register.Sought.the-variants.{Pair, Number, Empty};
+ghost use Rattle.store.specs.View.{viewOf, bookOf, counterOf, keptOf, headOf, rowIn, isTaken, findIn};
+
+// The ticket counter.
+pub fn counter(s: &[u8]) -> u32
+    ensures { λ r. ⌜ r ≡ counterOf (now (s .entry)) ⌝ }
+{
+    numbers::word_at(s, layout::COUNTER)
+}
+
+// The entries kept: never more than the ring has.
+pub fn kept(s: &[u8]) -> usize
+    ensures { λ r. ⌜ r ≡ keptOf (now (s .entry)) ⌝ }
+{
+    let n = numbers::word_at(s, layout::KEPT) as usize;
+    if n < replay::DEPTH { n } else { replay::DEPTH }
+}
+
+// The place of the ring that the next entry goes to.
+pub(crate) fn head(s: &[u8]) -> usize
+    ensures { λ r. ⌜ r ≡ headOf (now (s .entry)) ⌝ }
+{
+    numbers::word_at(s, layout::HEAD) as usize % replay::DEPTH
+}
+
+// The train in row i, counted from 0; a row past the register reads as blank.
+pub fn train(s: &[u8], i: usize) -> Train
+    ensures { λ r. ⌜ r ≡ rowIn (viewOf (now (s .entry))) i ⌝ }
+{
+    if i < register::ROWS {
+        row::row_at(s, layout::row_place(i))
+    } else {
+        Train::blank()
+    }
+}
+
+// The first row that holds a loco and a ticket together.
+pub fn find(s: &[u8], loco: Loco, ticket: Ticket) -> Found
+    ensures { λ r. ⌜ r ≡ findIn (viewOf (now (s .entry))) (Pair loco ticket) ⌝ }
+{
+    register::find(s, layout::ROWS, loco, ticket)
+}
+
+// The first row with a loco number.
+pub fn find_loco(s: &[u8], loco: Loco) -> Found
+    ensures { λ r. ⌜ r ≡ findIn (viewOf (now (s .entry))) (Number loco) ⌝ }
+{
+    register::find_loco(s, layout::ROWS, loco)
+}
+
+// The first empty row.
+pub fn find_empty(s: &[u8]) -> Found
+    ensures { λ r. ⌜ r ≡ findIn (viewOf (now (s .entry))) Empty ⌝ }
+{
+    register::find_empty(s, layout::ROWS)
+}
+
+// Is a slot taken? One that is none of the book's is not.
+pub fn is_taken(s: &[u8], slot: Slot) -> bool
+    ensures { λ r. ⌜ r ≡ isTaken (bookOf (now (s .entry))) (slot .0) ⌝ }
+{
+    if !slot.in_range() {
+        return false;
+    }
+    numbers::byte_at(s, layout::BOOK + (slot.0 as usize - 1)) != 0
+}
