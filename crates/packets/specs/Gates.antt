@@ -43,21 +43,35 @@ sizeOf distance n = (bitsOf distance n + 7) / 8
 abbrev pub paddingBits : ℕ → ℕ → ℕ
 paddingBits distance n = 8 * sizeOf distance n - bitsOf distance n
 
--- what is allowed: number 1 to 1022, suffix 0 to 6, class 0 to 6, whistling type 0 to 2
+-- the highest number, suffix, class and whistling type that are allowed
+abbrev pub lastNumber : ℕ
+lastNumber = 1022
+
+abbrev pub lastSuffix : ℕ
+lastSuffix = 6
+
+abbrev pub lastClass : ℕ
+lastClass = 6
+
+abbrev pub lastWhistle : ℕ
+lastWhistle = 2
+
+-- what is allowed: numbers from 1 on, the other fields from 0 on
 unfoldable pub gateRules : ℕ → ℕ → ℕ → ℕ → ℕ
 gateRules number suffix class whistle =
     orElse (refuse (ltb number 1) notAllowed)
-    (orElse (refuse (ltb 1022 number) notAllowed)
-    (orElse (refuse (ltb 6 suffix) notAllowed)
-    (orElse (refuse (ltb 6 class) notAllowed) (refuse (ltb 2 whistle) notAllowed))))
+    (orElse (refuse (ltb lastNumber number) notAllowed)
+    (orElse (refuse (ltb lastSuffix suffix) notAllowed)
+    (orElse (refuse (ltb lastClass class) notAllowed) (refuse (ltb lastWhistle whistle) notAllowed))))
 
 -- the rules on a gate's 9 bytes
 unfoldable pub gateRefusal : List ℕ → ℕ
 gateRefusal gate = gateRules (getD gate 2 0 * 256 + getD gate 3 0) (getD gate 4 0) (getD gate 6 0) (getD gate 8 0)
 
--- the answer of a gate read or write that is refused, and of one that is not
+-- the answer of a gate read or write that is refused: zeros
 abbrev pub refusedWith : ℕ → GatesAnswer
 refusedWith n = record { answer = n; gates = 0; bytes = 0 }
 
+-- and of one that is not: the gates, and the bytes of the sub-packet
 abbrev pub acceptedWith : ℕ → ℕ → GatesAnswer
 acceptedWith gates bytes = record { answer = 0; gates = gates; bytes = bytes }

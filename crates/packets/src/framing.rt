@@ -1,5 +1,4 @@
 // Framing: the refusal of the first sub-packet, and the sub-packet as a part of the lent bytes.
-use crate::fields;
 use crate::refusals;
 ghost use mathlib.Core.Path.{_≡_};
 ghost use Prim.Native.Nat.{_<_};
@@ -11,7 +10,7 @@ const LAST_TYPE: u32 = 7;
 pub(crate) fn length_of(s: &[u8]) -> usize
     ensures { λ r. ⌜ (r ≡ lengthOf (now (s .entry))) × (r < 128) ⌝ }
 {
-    fields::read_field(s, 4, 7) as usize
+    crate::read_field(s, 4, 7) as usize
 }
 
 // The refusal by the header, where the types from `low` to `high` are taken.
@@ -21,7 +20,7 @@ pub(crate) fn head_refusal(s: &[u8], low: u32, high: u32) -> u32
     if s.len() < 2 {
         return refusals::TOO_SHORT;
     }
-    let kind = fields::read_field(s, 0, 4);
+    let kind = crate::read_field(s, 0, 4);
     if kind < low {
         return refusals::WRONG_TYPE;
     }

@@ -1,16 +1,28 @@
 // What reading and writing gates share: the layout of a gate, what is allowed in it, and the answer. `distance` is the width of a gate's
 // distance.
+pub mod reading;
+pub mod writing;
+
 use crate::refusals;
 ghost use mathlib.Core.Path.{_≡_};
 ghost use Prim.Native.Nat.{_<_, _≤_};
 ghost use lib.ListN.{getD};
 ghost use Rattle.packets.specs.Gates.{gateWidths, gateBits, bitsOf, gateRules};
 
-pub(crate) const GATE_TYPE: u32 = 3;
+const GATE_TYPE: u32 = 3;
 
-pub(crate) const DISTANCE_WIDTH: usize = 15;
+const DISTANCE_WIDTH: usize = 15;
 
-pub(crate) const GATE_BYTES: usize = 9;
+const GATE_BYTES: usize = 9;
+
+// The highest values that are allowed.
+const LAST_NUMBER: u32 = 1022;
+
+const LAST_SUFFIX: u32 = 6;
+
+const LAST_CLASS: u32 = 6;
+
+const LAST_WHISTLE: u32 = 2;
 
 // What a gate read or write answers: 0 with the gates and the bytes of the sub-packet, or a refusal's number with zeros.
 #[repr(C)]
@@ -24,7 +36,7 @@ pub struct GatesAnswer {
 const WIDTHS: [usize; 9] = [0, 8, 2, 8, 3, 1, 3, 1, 2];
 
 // The width of a gate's piece j.
-pub(crate) fn piece_width(distance: usize, j: usize) -> usize
+fn piece_width(distance: usize, j: usize) -> usize
     requires { ⌜ (8 ≤ distance) × (distance ≤ 15) × (j < 9) ⌝ }
     ensures { λ r. ⌜ (r ≡ getD (gateWidths distance) j 0) × (r ≤ 8) ⌝ }
 {
@@ -32,7 +44,7 @@ pub(crate) fn piece_width(distance: usize, j: usize) -> usize
 }
 
 // The bits of a gate.
-pub(crate) fn gate_bits(distance: usize) -> usize
+fn gate_bits(distance: usize) -> usize
     requires { ⌜ distance ≤ 15 ⌝ }
     ensures { λ r. ⌜ (r ≡ gateBits distance) × (r ≤ 35) ⌝ }
 {
@@ -40,7 +52,7 @@ pub(crate) fn gate_bits(distance: usize) -> usize
 }
 
 // The bits of a sub-packet of n gates before its padding.
-pub(crate) fn bits_of(distance: usize, n: usize) -> usize
+fn bits_of(distance: usize, n: usize) -> usize
     requires { ⌜ (distance ≤ 15) × (n ≤ 31) ⌝ }
     ensures { λ r. ⌜ (r ≡ bitsOf distance n) × (r ≤ 1101) ⌝ }
 {
@@ -48,22 +60,22 @@ pub(crate) fn bits_of(distance: usize, n: usize) -> usize
 }
 
 // The refusal that a gate's fields get.
-pub(crate) fn gate_rules(number: u32, suffix: u32, class: u32, whistle: u32) -> u32
+fn gate_rules(number: u32, suffix: u32, class: u32, whistle: u32) -> u32
     ensures { λ r. ⌜ r ≡ gateRules number suffix class whistle ⌝ }
 {
     if number < 1 {
         return refusals::NOT_ALLOWED;
     }
-    if 1022 < number {
+    if LAST_NUMBER < number {
         return refusals::NOT_ALLOWED;
     }
-    if 6 < suffix {
+    if LAST_SUFFIX < suffix {
         return refusals::NOT_ALLOWED;
     }
-    if 6 < class {
+    if LAST_CLASS < class {
         return refusals::NOT_ALLOWED;
     }
-    if 2 < whistle {
+    if LAST_WHISTLE < whistle {
         return refusals::NOT_ALLOWED;
     }
     refusals::NONE

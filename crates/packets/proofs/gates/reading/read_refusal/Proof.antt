@@ -1,0 +1,61 @@
+-- `packets::gates::reading::read_refusal` meets its contract: what each place of the code has learnt, and then the law for each way out. Assumes nothing.
+use Prim.Native.Nat.{ℕ, _+_, _-_, _*_, _/_}
+use mathlib.Core.Path.{_≡_, sym, ap, _∙_}
+use native.Mathlib.Omega.{arith}
+use Rattle.packets.specs.Fields.{field}
+use Rattle.packets.specs.Framing.{lengthOf, headRefusal}
+use Rattle.packets.specs.Gates.{gateType, bitsOf, sizeOf}
+use Rattle.packets.specs.Reading.{countOf, fieldsRefusal, paddingOf}
+use Rattle.packets.proofs.ReadingLaws.{bad-head, bad-length, bad-fields, bad-padding, bad-room, may-read}
+use borrow.Author.Needs.{needs}
+use Rattle.packets.proofs.gates.reading.read_refusal.Statement.{statement}
+use Rattle.packets.proofs.gates.reading.read_refusal.Tie as tie
+
+-- what is known at each place of the code
+head-zero : (c : tie.Else1) → headRefusal (c .before .before .before .args .s .now) gateType gateType ≡ 0
+head-zero c = sym (c .before .head-refusal .ensures) ∙ c .if1 .left
+
+bits-eq : (c : tie.After-bits-of) → c .bits-of .result ≡ bitsOf (c .before .before .before .before .before .args .distance) (countOf (c .before .before .before .before .before .args .s .now))
+bits-eq c = c .bits-of .ensures .0 ∙ ap (bitsOf (c .before .before .before .before .before .args .distance)) (c .before .count-of .ensures .0)
+
+length-eq : (c : tie.Else2) → lengthOf (c .before .before .before .before .before .before .before .args .s .now) ≡ sizeOf (c .before .before .before .before .before .before .before .args .distance) (countOf (c .before .before .before .before .before .before .before .args .s .now))
+length-eq c = sym (c .before .length-of .ensures .0) ∙ c .if2 .left ∙ ap (λ (b : ℕ). (b + 7) / 8) (bits-eq (c .before .before))
+
+fields-eq : (c : tie.After-fields-refusal) → c .fields-refusal .result ≡ fieldsRefusal (c .before .before .before .before .before .before .before .before .args .distance) (c .before .before .before .before .before .before .before .before .args .s .now) 16 (countOf (c .before .before .before .before .before .before .before .before .args .s .now))
+fields-eq c = c .fields-refusal .ensures ∙ ap (fieldsRefusal (c .before .before .before .before .before .before .before .before .args .distance) (c .before .before .before .before .before .before .before .before .args .s .now) 16) (c .before .before .before .before .count-of .ensures .0)
+
+padding-eq : (c : tie.After-read-field) → c .read-field .result ≡ paddingOf (c .before .before .before .before .before .before .before .before .before .before .args .distance) (c .before .before .before .before .before .before .before .before .before .before .args .s .now)
+padding-eq c = c .read-field .ensures ∙ ap (λ (b : ℕ). field (c .before .before .before .before .before .before .before .before .before .before .args .s .now) b (8 * ((b + 7) / 8) - b)) (bits-eq (c .before .before .before .before .before))
+
+returns : tie.Need-returns
+returns c = let a = c .before .before .before .args in
+    bad-head (a .distance) (a .s .now) (a .room) (c .before .head-refusal .result) (c .before .head-refusal .ensures) (c .if1 .taken)
+
+returns-2 : tie.Need-returns-2
+returns-2 c = let a = c .before .before .before .before .before .before .before .args in
+    bad-length (a .distance) (a .s .now) (a .room) (head-zero (c .before .before .before .before))
+    (λ e. c .if2 .taken (c .before .length-of .ensures .0 ∙ e ∙ ap (λ (b : ℕ). (b + 7) / 8) (sym (bits-eq (c .before .before)))))
+
+returns-3 : tie.Need-returns-3
+returns-3 c = let a = c .before .before .before .before .before .before .before .before .before .args in
+    bad-fields (a .distance) (a .s .now) (a .room) (head-zero (c .before .before .before .before .before .before)) (length-eq (c .before .before)) (c .before .fields-refusal .result) (fields-eq (c .before)) (c .if3 .taken)
+
+returns-4 : tie.Need-returns-4
+returns-4 c = let a = c .before .before .before .before .before .before .before .before .before .before .before .args in
+    bad-padding (a .distance) (a .s .now) (a .room) (head-zero (c .before .before .before .before .before .before .before .before)) (length-eq (c .before .before .before .before)) (sym (fields-eq (c .before .before .before)) ∙ c .before .before .if3 .left) (omega (arith, padding-eq (c .before)))
+
+returns-5 : tie.Need-returns-5
+returns-5 c = let a = c .before .before .before .before .before .before .before .before .before .before .before .before .args in
+    bad-room (a .distance) (a .s .now) (a .room) (head-zero (c .before .before .before .before .before .before .before .before .before)) (length-eq (c .before .before .before .before .before)) (sym (fields-eq (c .before .before .before .before)) ∙ c .before .before .before .if3 .left) (omega (arith, padding-eq (c .before .before))) (omega arith)
+
+returns-6 : tie.Need-returns-6
+returns-6 c = let a = c .before .before .before .before .before .before .before .before .before .before .before .before .args in
+    may-read (a .distance) (a .s .now) (a .room) (head-zero (c .before .before .before .before .before .before .before .before .before)) (length-eq (c .before .before .before .before .before)) (sym (fields-eq (c .before .before .before .before)) ∙ c .before .before .before .if3 .left) (omega (arith, padding-eq (c .before .before))) (omega arith)
+
+pub read-refusal-spec : {M : Type 1} → statement M
+read-refusal-spec =
+    tie.close
+    (tie.spec
+    (λ c κs. search needs) returns (λ c κs. search needs) (λ c κs. search needs) (λ c. search needs)
+    (λ c κs. search needs) returns-2 (λ c κs. search needs) returns-3 (λ c. search needs) (λ c. search needs)
+    (λ c κs. search needs) returns-4 (λ c. search needs) returns-5 returns-6)

@@ -1,0 +1,48 @@
+-- `packets::gates::writing::first_refusal` meets its contract. Assumes nothing.
+use Prim.Native.Nat.{ℕ, _+_, _-_, _*_, _≤_, _<_}
+use mathlib.Core.Path.{_≡_, sym, _∙_}
+use mathlib.Core.List.{List}
+use native.Mathlib.Omega.{arith}
+use lib.ListN.{drop}
+use Rattle.packets.specs.Gates.{gateWidths}
+use Rattle.packets.specs.Writing.{widthsRefusal, firstRefusal}
+use Rattle.packets.proofs.RefusalLaws.{orElse-stop, orElse-go}
+use Rattle.packets.proofs.WritingLaws.{rules-at}
+use borrow.Author.Needs.{needs}
+use Rattle.packets.proofs.gates.writing.first_refusal.Statement.{statement}
+use Rattle.packets.proofs.gates.writing.first_refusal.Tie as tie
+
+returns : tie.Need-returns
+unfolding firstRefusal
+returns c = let called = c .before .widths-refusal in
+    called .ensures ∙ orElse-stop _ _ (λ z. c .if1 .taken (called .ensures ∙ z))
+
+mul-number : tie.Need-mul-number
+mul-number c = omega (arith, c .before .shared-slice-known2 .given (c .before .before .before .before .before .args .at + 2))
+
+add-number : tie.Need-add-number
+add-number c = let at : ℕ = c .before .before .before .before .before .before .before .args .at in
+    omega (arith, c .before .before .before .shared-slice-known2 .given (at + 2), c .before .shared-slice-known3 .given (at + 3))
+
+returns-2 : tie.Need-returns-2
+unfolding firstRefusal
+returns-2 c = let a = c .before .before .before .before .before .before .before .before .before .before .before .before .before .before .args in
+    let none : widthsRefusal (gateWidths (a .distance)) (drop (a .at) (a .list .now)) ≡ 0 = sym (c .before .before .before .before .before .before .before .before .before .before .before .before .widths-refusal .ensures) ∙ c .before .before .before .before .before .before .before .before .before .before .before .if1 .left in
+    c .gate-rules .ensures
+    ∙ rw (
+      c .before .before .before .before .before .before .before .before .before .wide .ensures,
+      c .before .before .before .before .before .before .before .wide2 .ensures,
+      c .before .before .before .before .before .wide3 .ensures,
+      c .before .before .before .wide4 .ensures,
+      c .before .wide5 .ensures,
+    )
+    (sym (orElse-go _ _ none ∙ rules-at (a .list .now) (a .at)))
+
+pub first-refusal-spec : {M : Type 1} → statement M
+first-refusal-spec =
+    tie.close
+    (tie.spec
+    (λ c κs. search needs) returns (λ c. search needs) (λ c. search needs) (λ c κs. search needs) mul-number
+    (λ c. search needs) (λ c. search needs) (λ c κs. search needs) add-number (λ c. search needs) (λ c. search needs)
+    (λ c κs. search needs) (λ c. search needs) (λ c. search needs) (λ c κs. search needs) (λ c. search needs)
+    (λ c. search needs) (λ c κs. search needs) (λ c κs. search needs) returns-2)

@@ -1,0 +1,68 @@
+-- `packets::gates::writing::put_gate` meets its contract. The invariant: what is left to write, written, is the whole row. Assumes nothing.
+use Prim.Native.Nat.{ℕ, _+_, _-_, _*_, _≤_, _<_}
+use mathlib.Core.Path.{_≡_, refl, sym, ap, _∙_}
+use mathlib.Core.List.{List}
+use native.Mathlib.Nat.{add-zero, add-assoc}
+use native.Mathlib.Omega.{arith}
+use lib.ListN.{length, getD, drop}
+use Rattle.packets.specs.Fields.{put}
+use Rattle.packets.specs.Rows.{pack}
+use Rattle.packets.specs.Gates.{gateWidths}
+use Rattle.packets.proofs.RowLaws.{put-step, pack-zero}
+use Rattle.packets.proofs.GateLaws.{length-gate}
+use borrow.Author.Needs.{needs}
+use Rattle.packets.proofs.gates.writing.put_gate.Statement.{statement}
+use Rattle.packets.proofs.gates.writing.put_gate.Tie as tie
+
+nothing : (o : List ℕ) (q distance : ℕ) (list : List ℕ) → pack o q (drop 9 (gateWidths distance)) list ≡ o
+unfolding gateWidths
+nothing o q distance list = pack-zero o q list
+
+abbrev Inv-loop : tie.InvT-loop
+Inv-loop out₀ p distance list at q₀ j₀ out q j =
+    (j ≤ 9)
+    × (q ≤ p + 8 * j)
+    × (length out ≡ length out₀)
+    × (pack out q (drop j (gateWidths distance)) (drop (at + j) list) ≡ pack out₀ p (gateWidths distance) (drop at list))
+
+abbrev μ-loop : tie.MeasureT-loop
+μ-loop out₀ p distance list at q₀ j₀ out q j = 9 - j
+
+loop-holds : tie.Need-loop-holds Inv-loop μ-loop
+loop-holds c = let a = c .before .before .args in
+    (omega arith, omega arith, refl, ap (λ (k : ℕ). pack (a .out .now) (a .p) (gateWidths (a .distance)) (drop k (a .list .now))) (add-zero (a .at)))
+
+loop-again : tie.Need-loop-again Inv-loop μ-loop
+loop-again c = let called = c .before .before .write-field in
+    let byte = c .before .before .before .wide in
+    let w = c .before .before .before .before .before .before .piece-width in
+    let l = c .before .before .before .before .before .before .before .before .loop in
+    let a = c .before .before .before .before .before .before .before .before .before .before .before .args in
+    let ws : List ℕ = gateWidths (a .distance) in
+    let list : List ℕ = a .list .now in (
+      omega arith,
+      omega arith,
+      called .kept .0 ∙ l .inv .2,
+      ap (λ (o : List ℕ). pack o (l .q + w .result) (drop (l .j + 1) ws) (drop (a .at + (l .j + 1)) list))
+          (called .ensures ∙ ap (put (l .out) (l .q) (w .result)) (byte .ensures))
+          ∙ ap (λ (k : ℕ). pack (put (l .out) (l .q) (w .result) (getD list (a .at + l .j) 0)) (l .q + w .result) (drop (l .j + 1) ws) (drop k list))
+          (sym (add-assoc (a .at) (l .j) 1))
+          ∙ put-step (l .out) list (l .q) ws (a .at + l .j) (l .j) (w .result) (rw length-gate (omega arith)) (omega arith) (w .ensures .0)
+          ∙ l .inv .3,
+    )
+
+returns : tie.Need-returns Inv-loop μ-loop
+returns c = let l = c .before .loop in
+    let a = c .before .before .before .before .args in
+    let e : 9 ≡ l .j = omega arith in
+    sym (nothing (l .out) (l .q) (a .distance) (drop (a .at + l .j) (a .list .now)))
+    ∙ ap (λ (k : ℕ). pack (l .out) (l .q) (drop k (gateWidths (a .distance))) (drop (a .at + l .j) (a .list .now))) e
+    ∙ l .inv .3
+
+pub put-gate-spec : {M : Type 1} → statement M
+put-gate-spec =
+    tie.close
+    (tie.spec
+    Inv-loop μ-loop loop-holds (λ c κs. search needs) (λ c. search needs) (λ c. search needs) (λ c κs. search needs)
+    (λ c κs. search needs) (λ c. search needs) (λ c. search needs) (λ c. search needs) loop-again
+    (λ c. c .before .loop .inv .2) returns)

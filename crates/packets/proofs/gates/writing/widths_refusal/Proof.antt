@@ -1,0 +1,58 @@
+-- `packets::gates::writing::widths_refusal` meets its contract. The invariant: the refusal of the pieces left is that of all. Assumes nothing.
+use Prim.Native.Nat.{ℕ, _+_, _-_, _*_, _≤_, _<_}
+use mathlib.Core.Path.{_≡_, sym, ap, _∙_}
+use mathlib.Core.List.{List}
+use native.Mathlib.Nat.{add-zero, add-assoc}
+use native.Mathlib.Omega.{arith}
+use lib.ListN.{length, drop}
+use Rattle.packets.specs.Gates.{gateWidths}
+use Rattle.packets.specs.Writing.{widthsRefusal}
+use Rattle.packets.proofs.GateLaws.{length-gate}
+use Rattle.packets.proofs.WritingLaws.{widths-none, widths-stop, widths-go}
+use borrow.Author.Needs.{needs}
+use Rattle.packets.proofs.gates.writing.widths_refusal.Statement.{statement}
+use Rattle.packets.proofs.gates.writing.widths_refusal.Tie as tie
+
+abbrev Inv-loop : tie.InvT-loop
+Inv-loop list at distance j₀ j =
+    (j ≤ 9) × (widthsRefusal (drop j (gateWidths distance)) (drop (at + j) list) ≡ widthsRefusal (gateWidths distance) (drop at list))
+
+abbrev μ-loop : tie.MeasureT-loop
+μ-loop list at distance j₀ j = 9 - j
+
+loop-holds : tie.Need-loop-holds Inv-loop μ-loop
+loop-holds c = let a = c .before .args in
+    (omega arith, ap (λ (k : ℕ). widthsRefusal (gateWidths (a .distance)) (drop k (a .list .now))) (add-zero (a .at)))
+
+returns : tie.Need-returns Inv-loop μ-loop
+returns c = let l = c .before .before .before .before .before .before .loop in
+    let a = c .before .before .before .before .before .before .before .before .args in
+    let w = c .before .before .before .before .piece-width in
+    let inside : l .j < length (gateWidths (a .distance)) = rw length-gate (omega arith) in
+    widths-stop (gateWidths (a .distance)) (a .list .now) (a .at + l .j) (l .j) (w .result) inside (w .ensures .0) (omega arith) ∙ l .inv .1
+
+loop-again : tie.Need-loop-again Inv-loop μ-loop
+loop-again c = let l = c .before .before .before .before .before .before .loop in
+    let a = c .before .before .before .before .before .before .before .before .args in
+    let w = c .before .before .before .before .piece-width in
+    let inside : l .j < length (gateWidths (a .distance)) = rw length-gate (omega arith) in (
+      omega arith,
+      ap (λ (k : ℕ). widthsRefusal (drop (l .j + 1) (gateWidths (a .distance))) (drop k (a .list .now))) (sym (add-assoc (a .at) (l .j) 1))
+          ∙ widths-go (gateWidths (a .distance)) (a .list .now) (a .at + l .j) (l .j) (w .result) inside (w .ensures .0) (omega arith)
+          ∙ l .inv .1,
+    )
+
+returns-2 : tie.Need-returns-2 Inv-loop μ-loop
+returns-2 c = let l = c .before .loop in
+    let a = c .before .before .before .args in
+    let e : 9 ≡ l .j = omega arith in
+    sym (widths-none (a .distance) (drop (a .at + l .j) (a .list .now)))
+    ∙ ap (λ (k : ℕ). widthsRefusal (drop k (gateWidths (a .distance))) (drop (a .at + l .j) (a .list .now))) e
+    ∙ l .inv .1
+
+pub widths-refusal-spec : {M : Type 1} → statement M
+widths-refusal-spec =
+    tie.close
+    (tie.spec
+    Inv-loop μ-loop loop-holds (λ c κs. search needs) (λ c κs. search needs) (λ c. search needs) (λ c. search needs)
+    (λ c κs. search needs) returns (λ c. search needs) (λ c. search needs) loop-again returns-2)

@@ -1,0 +1,75 @@
+-- `packets::write_field` meets its contract. The invariant: what is left to write, written, is the whole write. Assumes nothing.
+use Prim.Native.Nat.{ℕ, _≤_, _<_, _-_, _+_, _/_, _%_}
+use mathlib.Core.List.{List}
+use mathlib.Core.Path.{_≡_, refl, sym, _∙_, ap}
+use borrow.Author.Needs.{needs}
+use native.Mathlib.Omega.{arith}
+use native.Mathlib.Numerals.{add-one}
+use lib.ListN.{length}
+use Rattle.packets.specs.Fields.{putBit, put}
+use Rattle.packets.proofs.FieldLaws.{put-zero, put-suc}
+use Rattle.packets.proofs.write_field.Statement.{statement}
+use Rattle.packets.proofs.write_field.Tie as tie
+
+abbrev Inv-loop : tie.InvT-loop
+Inv-loop out₀ at width value v₀ i₀ out v i =
+    (i ≤ width) × (length out ≡ length out₀) × (put out at i v ≡ put out₀ at width value)
+
+abbrev μ-loop : tie.MeasureT-loop
+μ-loop out₀ at width value v₀ i₀ out v i = i
+
+-- a turn, of plain numbers: the last bit left is written, and the rest is left
+step : (s t : List ℕ) (p i v : ℕ) → 0 < i → t ≡ putBit s (p + (i - 1)) (v % 2) → put t p (i - 1) (v / 2) ≡ put s p i v
+step s t p i v h e =
+    rw e (sym (put-suc s p (i - 1) v) ∙ ap (λ (n : ℕ). put s p n v) (omega arith))
+
+loop-holds : tie.Need-loop-holds Inv-loop μ-loop
+loop-holds c = (omega arith, refl, refl)
+
+sub-i : tie.Need-sub-i Inv-loop μ-loop
+sub-i c = search needs
+
+add-put-bit : tie.Need-add-put-bit Inv-loop μ-loop
+add-put-bit c = search needs
+
+put-bit-requires : tie.Need-put-bit-requires Inv-loop μ-loop
+put-bit-requires c κs = search needs
+
+loop-less : tie.Need-loop-less Inv-loop μ-loop
+loop-less c = search needs
+
+loop-again : tie.Need-loop-again Inv-loop μ-loop
+loop-again c =
+    let called = c .before .before .put-bit in
+    let at-loop = c .before .before .before .before .before in
+    let l = at-loop .loop in
+    let a = at-loop .before .before .args in (
+      omega arith,
+      called .kept .0 ∙ l .inv .1,
+      step (l .out) _ (a .at) (l .i) (l .v) (omega arith) (called .ensures) ∙ l .inv .2,
+    )
+
+same-length : tie.Need-same-length Inv-loop μ-loop
+same-length c = c .before .loop .inv .1
+
+returns : tie.Need-returns Inv-loop μ-loop
+returns c =
+    let l = c .before .loop in
+    let a = c .before .before .before .args in
+    let e : l .i ≡ 0 = omega arith in
+    sym (put-zero (l .out) (a .at) (l .v)) ∙ ap (λ (n : ℕ). put (l .out) (a .at) n (l .v)) (sym e) ∙ l .inv .2
+
+pub write-field-spec : {M : Type 1} → statement M
+write-field-spec =
+    tie.close
+    (tie.spec
+    Inv-loop
+    μ-loop
+    loop-holds
+    sub-i
+    add-put-bit
+    put-bit-requires
+    loop-less
+    loop-again
+    same-length
+    returns)

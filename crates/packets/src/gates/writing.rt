@@ -1,0 +1,154 @@
+// Gates written as a sub-packet: everything is judged first, and written afterwards, so that a refusal changes nothing.
+use super::GatesAnswer;
+use crate::refusals;
+ghost use mathlib.Core.Path.{_≡_};
+ghost use Prim.Native.Nat.{_+_, _*_, _≤_};
+ghost use lib.ListN.{length, drop};
+ghost use Rattle.packets.specs.Rows.{times, pack};
+ghost use Rattle.packets.specs.Gates.{gateWidths, sizeOf};
+ghost use Rattle.packets.specs.Writing.{written, widthsRefusal, firstRefusal, listRefusal, writeRefusal, writeAnswer, writeInto};
+
+const MOST_GATES: usize = 28;
+
+// The refusal of a byte of the gate at index `at` that has more digits than its piece is wide.
+fn widths_refusal(list: &[u8], at: usize, distance: usize) -> u32
+    requires { ⌜ (8 ≤ distance) × (distance ≤ 15) × (at + 9 ≤ length (now list)) ⌝ }
+    ensures { λ r. ⌜ r ≡ widthsRefusal (gateWidths distance) (drop at (now (list .entry))) ⌝ }
+{
+    let mut j = 0;
+    while j < super::GATE_BYTES {
+        let limit = crate::weight(super::piece_width(distance, j));
+        if limit <= crate::wide(list[at + j]) {
+            return refusals::TOO_WIDE;
+        }
+        j += 1;
+    }
+    refusals::NONE
+}
+
+// The refusal that the gate at index `at` gets.
+fn first_refusal(list: &[u8], at: usize, distance: usize) -> u32
+    requires { ⌜ (8 ≤ distance) × (distance ≤ 15) × (at + 9 ≤ length (now list)) ⌝ }
+    ensures { λ r. ⌜ r ≡ firstRefusal distance (drop at (now (list .entry))) ⌝ }
+{
+    let widths = widths_refusal(list, at, distance);
+    if widths != refusals::NONE {
+        return widths;
+    }
+    let number = crate::wide(list[at + 2]) * 256 + crate::wide(list[at + 3]);
+    super::gate_rules(
+        number,
+        crate::wide(list[at + 4]),
+        crate::wide(list[at + 6]),
+        crate::wide(list[at + 8]),
+    )
+}
+
+// The first refusal of the n gates of a list.
+fn list_refusal(list: &[u8], distance: usize, n: usize) -> u32
+    requires { ⌜ (8 ≤ distance) × (distance ≤ 15) × (9 * n ≤ length (now list)) ⌝ }
+    ensures { λ r. ⌜ r ≡ listRefusal distance (now (list .entry)) n ⌝ }
+{
+    let mut at = 0;
+    let mut i = 0;
+    while i < n {
+        let refusal = first_refusal(list, at, distance);
+        if refusal != refusals::NONE {
+            return refusal;
+        }
+        at += super::GATE_BYTES;
+        i += 1;
+    }
+    refusals::NONE
+}
+
+// The refusal that a write of at most `most` gates into `room` bytes gets.
+fn write_refusal(list: &[u8], room: usize, distance: usize, most: usize) -> u32
+    requires { ⌜ (8 ≤ distance) × (distance ≤ 15) × (most ≤ 31) ⌝ }
+    ensures { λ r. ⌜ r ≡ writeRefusal distance most (now (list .entry)) room ⌝ }
+{
+    let n = list.len() / super::GATE_BYTES;
+    if 0 < list.len() % super::GATE_BYTES {
+        return refusals::NOT_WHOLE_GATES;
+    }
+    if most < n {
+        return refusals::TOO_MANY_GATES;
+    }
+    let refusal = list_refusal(list, distance, n);
+    if refusal != refusals::NONE {
+        return refusal;
+    }
+    if room < (super::bits_of(distance, n) + 7) / 8 {
+        return refusals::NO_ROOM;
+    }
+    refusals::NONE
+}
+
+// Writes the gate at index `at` of a list at bit p.
+fn put_gate(out: &mut [u8], p: usize, distance: usize, list: &[u8], at: usize)
+    requires { ⌜ (p ≤ 2000) × (8 ≤ distance) × (distance ≤ 15) × (at + 9 ≤ length (now list)) ⌝ }
+    ensures { λ _. ⌜ now (out .exit) ≡ pack (now (out .entry)) p (gateWidths distance) (drop at (now (list .entry))) ⌝ }
+{
+    let mut q = p;
+    let mut j = 0;
+    while j < super::GATE_BYTES {
+        let w = super::piece_width(distance, j);
+        crate::write_field(out, q, w, crate::wide(list[at + j]));
+        q += w;
+        j += 1;
+    }
+}
+
+// Writes the n gates of a list from bit 16 on.
+fn put_gates(out: &mut [u8], distance: usize, list: &[u8], n: usize)
+    requires { ⌜ (8 ≤ distance) × (distance ≤ 15) × (n ≤ 31) × (9 * n ≤ length (now list)) ⌝ }
+    ensures { λ _. ⌜ now (out .exit) ≡ pack (now (out .entry)) 16 (times n (gateWidths distance)) (now (list .entry)) ⌝ }
+{
+    let mut p = 16;
+    let mut at = 0;
+    let mut i = 0;
+    while i < n {
+        put_gate(out, p, distance, list, at);
+        p += super::gate_bits(distance);
+        at += super::GATE_BYTES;
+        i += 1;
+    }
+}
+
+// Writes the whole sub-packet of the n gates of a list, and answers its bytes.
+fn put_packet(out: &mut [u8], distance: usize, list: &[u8], n: usize) -> usize
+    requires { ⌜ (8 ≤ distance) × (distance ≤ 15) × (n ≤ 31) × (length (now list) ≡ 9 * n) ⌝ }
+    ensures { λ r. ⌜ r ≡ sizeOf distance n ⌝ }
+    ensures { λ _. ⌜ now (out .exit) ≡ written distance (now (list .entry)) (now (out .entry)) ⌝ }
+{
+    let bits = super::bits_of(distance, n);
+    let bytes = (bits + 7) / 8;
+    crate::write_field(out, 0, 4, super::GATE_TYPE);
+    crate::write_field(out, 4, 7, bytes as u32);
+    crate::write_field(out, 11, 5, n as u32);
+    put_gates(out, distance, list, n);
+    crate::write_field(out, bits, 8 * bytes - bits, 0);
+    bytes
+}
+
+// Writes the gates of `list`, 9 bytes for each, as a sub-packet from the start of `out`. What lies behind it in `out` stays.
+pub fn write_gates(list: &[u8], out: &mut [u8]) -> GatesAnswer
+    ensures { λ r. ⌜ r ≡ writeAnswer (now (list .entry)) (now (out .entry)) ⌝ }
+    ensures { λ _. ⌜ now (out .exit) ≡ writeInto (now (list .entry)) (now (out .entry)) ⌝ }
+{
+    let answer = write_refusal(list, out.len(), super::DISTANCE_WIDTH, MOST_GATES);
+    if answer != refusals::NONE {
+        return GatesAnswer {
+            answer,
+            gates: 0,
+            bytes: 0,
+        };
+    }
+    let gates = list.len() / super::GATE_BYTES;
+    let bytes = put_packet(out, super::DISTANCE_WIDTH, list, gates);
+    GatesAnswer {
+        answer,
+        gates,
+        bytes,
+    }
+}
