@@ -12,10 +12,9 @@ use trains::kinds::Slot;
 use trains::kinds::Ticket;
 use trains::record::Train;
 ghost use mathlib.Core.Path.{_≡_};
-ghost use Prim.Native.Nat.{suc, _≤_};
+ghost use Prim.Native.Nat.{suc};
 ghost use Rattle.store.specs.View.{viewOf, counterOf};
 ghost use Rattle.session.specs.Registering.{granted, placed, requested, released};
-ghost use Rattle.session.specs.Slots.{mostSlots};
 
 const FREE: u32 = 0;
 
@@ -34,14 +33,13 @@ pub(crate) fn grant(loco: Loco, slots: u32, ticket: Ticket, row: usize, start: S
 
 // The rest of a request once a row is found.
 fn place(s: &[u8], loco: Loco, slots: u32, row: usize) -> Ruling
-    requires { ⌜ slots ≤ mostSlots ⌝ }
     ensures { λ r. ⌜ r ≡ placed loco slots (suc (counterOf (now (s .entry)))) (viewOf (now (s .entry))) row ⌝ }
 {
     let counter = view::counter(s);
     if kinds::LAST_TICKET <= counter {
         return Ruling::refused(refusals::NO_TICKET_LEFT);
     }
-    match slots::lowest_run(s, slots as usize) {
+    match slots::lowest_run(s, slots) {
         Found::Nothing => Ruling::refused(refusals::NO_FREE_RUN),
         Found::Index(start) => grant(loco, slots, Ticket(counter + 1), row, Slot(start as u32)),
     }

@@ -4,9 +4,8 @@ use trains::found::Found;
 use trains::kinds::Slot;
 use trains::ranges;
 ghost use mathlib.Core.Path.{_≡_};
-ghost use Prim.Native.Nat.{_≤_, _<_};
 ghost use Rattle.store.specs.View.{bookOf};
-ghost use Rattle.session.specs.Slots.{bytesPerSlot, mostSlots, isRequest, slotsFor, isFree, lowestRun};
+ghost use Rattle.session.specs.Slots.{bytesPerSlot, isRequest, slotsFor, isFree, lowestRun};
 
 // The bytes that a slot carries.
 pub const PER_SLOT: u32 = 54;
@@ -21,28 +20,31 @@ pub(crate) fn is_request(bytes: u32) -> bool
     ranges::is_one_to(MOST_SLOTS * PER_SLOT, bytes)
 }
 
-// The slots that a request needs.
+// The slots that a request needs: its bytes by those of a slot, rounded up.
 pub(crate) fn slots_for(bytes: u32) -> u32
-    requires { ⌜ bytes ≤ 324 ⌝ }
-    ensures { λ r. ⌜ (r ≡ slotsFor bytesPerSlot bytes) × (r ≤ mostSlots) ⌝ }
+    ensures { λ r. ⌜ r ≡ slotsFor bytesPerSlot bytes ⌝ }
 {
-    (bytes + (PER_SLOT - 1)) / PER_SLOT
+    if bytes == 0 {
+        return 0;
+    }
+    (bytes - 1) / PER_SLOT + 1
 }
 
+// Is the slot one of the book's, and free?
 fn is_free(s: &[u8], slot: usize) -> bool
-    requires { ⌜ slot < 100 ⌝ }
     ensures { λ r. ⌜ r ≡ isFree (bookOf (now (s .entry))) slot ⌝ }
 {
-    let named = Slot(slot as u32);
-    if named.in_range() {
-        return !view::is_taken(s, named);
+    if slot < 1 {
+        return false;
     }
-    false
+    if slot > LAST_SLOT {
+        return false;
+    }
+    !view::is_taken(s, Slot(slot as u32))
 }
 
 // The lowest start at which n slots side by side are free.
-pub(crate) fn lowest_run(s: &[u8], n: usize) -> Found
-    requires { ⌜ n ≤ mostSlots ⌝ }
+pub(crate) fn lowest_run(s: &[u8], n: u32) -> Found
     ensures { λ r. ⌜ r ≡ lowestRun (bookOf (now (s .entry))) n ⌝ }
 {
     let mut start: usize = 1;
@@ -50,7 +52,7 @@ pub(crate) fn lowest_run(s: &[u8], n: usize) -> Found
         if start > LAST_SLOT {
             break Found::Nothing;
         }
-        let end = start + n;
+        let end = start + n as usize;
         let mut slot = start;
         while slot < end {
             if !is_free(s, slot) {
