@@ -1,12 +1,13 @@
 -- Laws of the slot book: the search for a run, a turn at a time, and what it finds. Assumes nothing.
 use mathlib.Core.Path.{_≡_, refl, sym, ap, _∙_}
-use mathlib.Core.Bool.{Bool, true, false, not, _&&_}
+use mathlib.Core.Bool.{Bool, true, false, not}
 use mathlib.Core.List.{List}
-use Prim.Native.Nat.{ℕ, zero, suc, _+_, _-_, _*_, _/_, _≤_, _<_}
+use mathlib.Core.Logic.{_⊎_, inl, inr}
+use Prim.Native.Nat.{ℕ, suc, _+_, _-_, _≤_, _<_}
 use native.Mathlib.Numerals.{add-one}
 use native.Mathlib.Omega.{arith}
-use borrow.Author.Tests.{leb-true}
-use lib.Dec.{eqb, leb}
+use borrow.Author.Tests.{le-leb, lt-leb}
+use lib.Dec.{eqb}
 use lib.ListN.{getD}
 use Rattle.trains.specs.Found.{first}
 use Rattle.trains.specs.Kinds.{lastSlot}
@@ -15,7 +16,7 @@ use Rattle.trains.specs.declared.found.Found.{Found}
 use Rattle.trains.specs.declared.found.Found.the-variants.{Nothing, Index}
 use Rattle.trains.proofs.FoundLaws.{first-hit, first-miss, first-end, first-below, first-true, first-before, Before}
 use Rattle.store.specs.View.{isTaken}
-use Rattle.session.specs.Slots.{bytesPerSlot, mostSlots, isRequest, slotsFor, isFree, isRun, lowestRun}
+use Rattle.session.specs.Slots.{isFree, isRun, lowestRun}
 
 -- a slot of the book is free exactly when it is not taken
 pub free-in : (book : List ℕ) (slot : ℕ) → oneTo lastSlot slot ≡ true → not (isTaken book slot) ≡ isFree book slot
@@ -30,6 +31,16 @@ free-in book slot h = rw h (not-not (eqb (getD book (slot - 1) 0) 0))
 pub free-out : (book : List ℕ) (slot : ℕ) → oneTo lastSlot slot ≡ false → false ≡ isFree book slot
 unfolding isFree
 free-out book slot h = rw h
+
+-- the slots of the book are 1 to 44
+pub in-book : (slot : ℕ) → 1 ≤ slot → slot ≤ lastSlot → oneTo lastSlot slot ≡ true
+unfolding oneTo
+in-book slot l h = simp (le-leb 1 slot l, le-leb slot lastSlot h)
+
+pub not-in-book : (slot : ℕ) → (slot < 1) ⊎ (lastSlot < slot) → oneTo lastSlot slot ≡ false
+unfolding oneTo
+not-in-book slot (inl h) = simp (lt-leb 1 slot h)
+not-in-book slot (inr h) = simp (le-leb 1 slot (omega arith), lt-leb slot lastSlot h)
 
 less : (i e : ℕ) → i < e → e - i ≡ suc (e - (i + 1))
 less i e h = omega arith
@@ -89,19 +100,3 @@ run-free book n s e = first-true (λ start. isRun book start n) 1 lastSlot s e
 pub run-lowest : (book : List ℕ) (n k : ℕ) → 1 ≤ k → k ≤ lastSlot → Before k (lowestRun book n) → isRun book k n ≡ false
 unfolding lowestRun
 run-lowest book n k l h b = first-before (λ start. isRun book start n) 1 lastSlot k l (omega arith) b
-
--- ---- requests
-
-and-second : (a b : Bool) → (a && b) ≡ true → b ≡ true
-and-second true b e = e
-and-second false true e = refl
-and-second false false e = e
-
--- a request is small
-pub request-small : (bytes : ℕ) → isRequest bytesPerSlot bytes ≡ true → bytes ≤ 324
-unfolding oneTo
-request-small bytes e = leb-true bytes 324 (and-second (leb 1 bytes) (leb bytes 324) e)
-
-pub slots-few : (bytes : ℕ) → bytes ≤ 324 → slotsFor bytesPerSlot bytes ≤ mostSlots
-unfolding slotsFor
-slots-few bytes h = omega arith

@@ -2,13 +2,10 @@
 use mathlib.Core.Path.{_≡_, sym, ap, _∙_}
 use Rattle.session.proofs.RulingLaws.{ruling-is, stops, goes-on, stops-unless, goes-on-unless}
 use Prim.Native.Nat.{ℕ, suc}
-use native.Mathlib.Omega.{arith}
-use borrow.Author.Tests.{not-false}
 use Rattle.trains.specs.Found.{isFound}
 use Rattle.store.specs.View.{viewOf, counterOf}
 use Rattle.session.specs.Registering.{placed, requested}
 use Rattle.session.proofs.RulingLaws.{nothing-found, found-at}
-use Rattle.session.proofs.SlotLaws.{request-small}
 use borrow.Author.Needs.{needs}
 use Rattle.session.proofs.registering.request.Statement.{statement}
 use Rattle.session.proofs.registering.request.Tie as tie
@@ -28,9 +25,6 @@ returns-3 c = c .refused3 .ensures ∙ stops _ _ _ (sym (c .before .before .is-t
     ∙ goes-on-unless _ _ _ _ (c .before .before .before .before .before .is-request .ensures) (c .before .before .before .before .if2 .left)
     ∙ goes-on-unless _ _ _ _ (c .before .before .before .before .before .before .before .in-range .ensures) (c .before .before .before .before .before .before .if1 .left)
 
-slots-for-requires : tie.Need-slots-for-requires
-slots-for-requires c κs = request-small _ (sym (c .before .before .before .before .before .before .before .before .is-request .ensures) ∙ not-false _ (c .before .before .before .before .before .before .before .if2 .left))
-
 returns-4 : tie.Need-returns-4
 unfolding requested
 returns-4 c = c .refused4 .ensures ∙ nothing-found _ _ _ (sym (c .before .before .before .find-empty .ensures) ∙ c .before .enum-told .given .1)
@@ -41,7 +35,7 @@ returns-4 c = c .refused4 .ensures ∙ nothing-found _ _ _ (sym (c .before .befo
 returns-5 : tie.Need-returns-5
 unfolding requested
 returns-5 c = let a = c .before .before .before .before .before .before .before .before .before .before .before .before .before .before .args in
-    c .place .ensures ∙ ap (λ (n : ℕ). placed (a .loco) n (suc (counterOf (a .s .now))) (viewOf (a .s .now)) (c .before .before .before .row .given .0 .0)) (c .before .slots-for .ensures .0)
+    c .place .ensures ∙ ap (λ (n : ℕ). placed (a .loco) n (suc (counterOf (a .s .now))) (viewOf (a .s .now)) (c .before .before .before .row .given .0 .0)) (c .before .slots-for .ensures)
     ∙ found-at _ _ _ _ (sym (c .before .before .before .before .before .find-empty .ensures) ∙ c .before .before .before .row .given .1)
     ∙ goes-on _ _ _ (sym (c .before .before .before .before .before .before .before .is-there .ensures ∙ ap isFound (c .before .before .before .before .before .before .before .before .find-loco .ensures)) ∙ c .before .before .before .before .before .before .if3 .left)
     ∙ goes-on-unless _ _ _ _ (c .before .before .before .before .before .before .before .before .before .before .is-request .ensures) (c .before .before .before .before .before .before .before .before .before .if2 .left)
@@ -53,5 +47,5 @@ request-spec =
     (tie.spec
     (λ c κs. search needs) (λ c κs. search needs) returns (λ c κs. search needs) (λ c κs. search needs) returns-2
     (λ c κs. search needs) (λ c κs. search needs) (λ c κs. search needs) returns-3 (λ c κs. search needs)
-    (λ c. search needs) (λ c κs. search needs) (λ c. search needs) slots-for-requires (λ c κs. search needs) returns-4
-    returns-5)
+    (λ c. search needs) (λ c κs. search needs) (λ c. search needs) (λ c κs. search needs) (λ c κs. search needs)
+    returns-4 returns-5)

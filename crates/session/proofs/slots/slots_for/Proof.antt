@@ -1,6 +1,6 @@
 -- `session::slots::slots_for` meets its contract. Assumes nothing.
+use mathlib.Core.Path.{_≡_, sym}
 use native.Mathlib.Omega.{arith}
-use mathlib.Core.Path.{refl}
 use Rattle.session.specs.Slots.{slotsFor}
 use borrow.Author.Needs.{needs}
 use Rattle.session.proofs.slots.slots_for.Statement.{statement}
@@ -8,10 +8,14 @@ use Rattle.session.proofs.slots.slots_for.Tie as tie
 
 returns : tie.Need-returns
 unfolding slotsFor
-returns c = (refl, omega arith)
+returns c = rw (c .if1 .taken)
+
+returns-2 : tie.Need-returns-2
+unfolding slotsFor
+returns-2 c = omega arith
 
 pub slots-for-spec : {M : Type 1} → statement M
 slots-for-spec =
     tie.close
     (tie.spec
-    (λ c. search needs) (λ c. search needs) returns)
+    returns (λ c. search needs) (λ c. search needs) returns-2)
