@@ -20,6 +20,9 @@ returns : tie.Need-returns
 unfolding placed viewOf
 returns c = c .refused .ensures ∙ stops _ _ _ (ap not (lt-leb (suc (counterOf (c .before .before .before .before .args .s .now))) lastTicket (omega (arith, c .before .before .counter .ensures))))
 
+cast-t12 : tie.Need-cast-t12
+cast-t12 c = omega (arith, run-in (bookOf (c .before .before .before .before .before .before .before .args .s .now)) (c .before .before .before .before .before .before .before .args .slots) (c .before .start .given .0 .0) (sym (c .before .before .before .lowest-run .ensures) ∙ c .before .start .given .1))
+
 returns-2 : tie.Need-returns-2
 unfolding placed viewOf
 returns-2 c = c .refused2 .ensures ∙ nothing-found _ _ _ (sym (c .before .before .before .lowest-run .ensures) ∙ c .before .enum-told .given .1)
@@ -38,5 +41,4 @@ place-spec =
     tie.close
     (tie.spec
     (λ c κs. search needs) (λ c κs. search needs) returns (λ c κs. search needs) (λ c. search needs)
-    (λ c κs. search needs) (λ c. search needs) (λ c. search needs) (λ c. search needs) (λ c κs. search needs) returns-2
-    returns-3)
+    (λ c κs. search needs) (λ c. search needs) (λ c. search needs) cast-t12 (λ c κs. search needs) returns-2 returns-3)
