@@ -10,3 +10,4 @@ pub mod EffectLaws
 pub mod SettledLaws
 pub mod BackLaws
 pub mod EmptyLaws
+pub mod BoundsLaws

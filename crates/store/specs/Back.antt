@@ -9,7 +9,7 @@ use Rattle.replay.specs.Ring.{before}
 use Rattle.rows.specs.Register.{rowCount}
 use Rattle.rows.specs.Row.{rowBytes}
 use Rattle.trains.specs.Kinds.{lastSlot}
-use Rattle.store.specs.Layout.{bookAt, rowPlace, entryPlace, oneAt, otherAt}
+use Rattle.store.specs.Layout.{isSession, bookAt, rowPlace, entryPlace, oneAt, otherAt}
 use Rattle.store.specs.Copied.{copied}
 use Rattle.store.specs.Settled.{headed}
 use Rattle.store.specs.View.{counterOf, keptOf, headOf}
@@ -31,3 +31,7 @@ stepped bs =
 unfoldable pub steppedBy : ℕ → List ℕ → List ℕ
 steppedBy zero bs = bs
 steppedBy (suc k) bs = steppedBy k (stepped bs)
+
+-- and where the lent bytes are no session, as they were
+unfoldable pub steppedIn : ℕ → List ℕ → List ℕ
+steppedIn k bs = cond (isSession bs) (steppedBy k bs) bs

@@ -1,8 +1,9 @@
 -- What an accepted operation does to the view: some slots side by side marked in the book, and at most two rows changed (the same row twice
 -- where one changed).
-use mathlib.Core.Bool.{cond}
+use mathlib.Core.Bool.{Bool, cond, _&&_}
 use mathlib.Core.List.{List}
 use Prim.Native.Nat.{ℕ, zero, suc, _-_, _<_}
+use lib.Dec.{ltb}
 use lib.ListN.{set}
 use Rattle.rows.specs.Register.{rowCount}
 use Rattle.trains.specs.Kinds.{lastSlot}
@@ -37,3 +38,7 @@ pub record InBounds (e : Effect) : Type 0 where
   pub one : e .one .row < rowCount
   pub other : e .other .row < rowCount
   pub mark : e .mark < 256
+
+-- the same as a test
+unfoldable pub inBounds : Effect → Bool
+inBounds e = ltb (e .one .row) rowCount && (ltb (e .other .row) rowCount && ltb (e .mark) 256)

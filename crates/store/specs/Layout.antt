@@ -1,6 +1,10 @@
 -- Where everything stands in a session's bytes: the ticket counter, the entries kept and the place that the next entry goes to, 4 bytes each;
 -- the slot book, a byte for each slot; the register; and the log's ring of entries.
+use mathlib.Core.Bool.{Bool}
+use mathlib.Core.List.{List}
 use Prim.Native.Nat.{ℕ, _+_, _*_}
+use lib.Dec.{eqb}
+use lib.ListN.{length}
 use Rattle.rows.specs.Register.{rowCount}
 use Rattle.rows.specs.Row.{rowBytes}
 use Rattle.trains.specs.Kinds.{lastSlot}
@@ -56,3 +60,7 @@ otherAt e = oneAt e + keptRowBytes
 -- the bytes of a session: the ring has 128 entries, the log's depth
 abbrev pub sessionBytes : ℕ
 sessionBytes = entryPlace 128
+
+-- the bytes are as many as a session has
+abbrev pub isSession : List ℕ → Bool
+isSession bs = eqb (length bs) sessionBytes

@@ -1,5 +1,6 @@
 -- AN EFFECT TAKEN INTO THE BYTES, the one way in which an accepted operation changes a session: its entry is pushed, the counter set, the slots
 -- marked and the two rows put.
+use mathlib.Core.Bool.{cond, _&&_}
 use mathlib.Core.List.{List}
 use Prim.Native.Nat.{ℕ, suc, _+_, min}
 use lib.Seq.{sets}
@@ -11,8 +12,8 @@ use Rattle.trains.specs.Kinds.{lastSlot}
 use Rattle.store.specs.declared.effect.Change.{Change}
 use Rattle.store.specs.declared.effect.Effect.{Effect}
 use Rattle.store.specs.Copied.{copied}
-use Rattle.store.specs.Effect.{marked}
-use Rattle.store.specs.Layout.{counterAt, keptAt, headAt, bookAt, rowPlace, entryPlace, oneAt, otherAt}
+use Rattle.store.specs.Effect.{inBounds, marked}
+use Rattle.store.specs.Layout.{isSession, counterAt, keptAt, headAt, bookAt, rowPlace, entryPlace, oneAt, otherAt}
 use Rattle.store.specs.View.{bookOf, keptOf, headOf}
 
 -- a row's number and the row kept from a byte on
@@ -47,3 +48,7 @@ effectPut bs e = changePut (changePut (bookMarked bs (e .start .0) (e .slots) (e
 -- the bytes after an accepted operation: the entry is kept before anything changes
 unfoldable pub settled : List ℕ → ℕ → Effect → List ℕ
 settled bs counter e = effectPut (pushed bs counter (e .one .row) (e .other .row)) e
+
+-- and where the lent bytes are no session, or the effect is out of bounds, as they were
+unfoldable pub settledIn : List ℕ → ℕ → Effect → List ℕ
+settledIn bs counter e = cond (isSession bs && inBounds e) (settled bs counter e) bs

@@ -1,7 +1,5 @@
 // Entries undone, the latest first.
-use crate::copied;
 use crate::layout;
-use crate::settled;
 use crate::view;
 use packets::numbers;
 use rows::register;
@@ -10,7 +8,7 @@ ghost use mathlib.Core.Path.{_≡_};
 ghost use Prim.Native.Nat.{_+_, _-_, _≤_};
 ghost use lib.ListN.{length};
 ghost use Rattle.store.specs.Layout.{sessionBytes, logAt, entryBytes, keptRowBytes};
-ghost use Rattle.store.specs.Back.{rowBack, entryBack, stepped, steppedBy};
+ghost use Rattle.store.specs.Back.{rowBack, entryBack, stepped, steppedBy, steppedIn};
 
 // The row that the log keeps from a byte on, put back; a number that is none of the register's restores nothing.
 fn restore_row(s: &mut [u8], at: usize)
@@ -19,7 +17,7 @@ fn restore_row(s: &mut [u8], at: usize)
 {
     let i = numbers::byte_at(s, at) as usize;
     if i < register::ROWS {
-        copied::copy_bytes(s, row::ROW, at + 1, layout::row_place(i));
+        crate::copy_bytes(s, row::ROW, at + 1, crate::row_place(i));
     }
 }
 
@@ -28,7 +26,7 @@ fn restore_entry(s: &mut [u8], at: usize)
     requires { ⌜ (length (now s) ≡ sessionBytes) × (logAt ≤ at) × (at + entryBytes ≤ sessionBytes) ⌝ }
     ensures { λ _. ⌜ now (s .exit) ≡ entryBack (now (s .entry)) at ⌝ }
 {
-    copied::copy_bytes(s, layout::BOOK_BYTES, at, layout::BOOK);
+    crate::copy_bytes(s, layout::BOOK_BYTES, at, layout::BOOK);
     restore_row(s, at + layout::ONE);
     restore_row(s, at + layout::OTHER);
 }
@@ -48,12 +46,12 @@ fn step_one(s: &mut [u8])
     let counter = view::counter(s);
     let kept = one_less(view::kept(s));
     let head = replay::place_before(view::head(s));
-    restore_entry(s, layout::entry_place(head));
-    settled::put_header(s, counter, kept, head);
+    restore_entry(s, crate::entry_place(head));
+    crate::put_header(s, counter, kept, head);
 }
 
 // The latest k entries undone.
-pub fn step_back(s: &mut [u8], k: usize)
+fn undo(s: &mut [u8], k: usize)
     requires { ⌜ length (now s) ≡ sessionBytes ⌝ }
     ensures { λ _. ⌜ now (s .exit) ≡ steppedBy k (now (s .entry)) ⌝ }
 {
@@ -61,5 +59,14 @@ pub fn step_back(s: &mut [u8], k: usize)
     while left > 0 {
         step_one(s);
         left -= 1;
+    }
+}
+
+// The latest k entries undone. Bytes of another length are left alone.
+pub fn step_back(s: &mut [u8], k: usize)
+    ensures { λ _. ⌜ now (s .exit) ≡ steppedIn k (now (s .entry)) ⌝ }
+{
+    if layout::is_session(s) {
+        undo(s, k);
     }
 }

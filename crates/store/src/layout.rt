@@ -1,12 +1,6 @@
 // Where everything stands in a session's bytes.
-use rows::row;
 ghost use mathlib.Core.Path.{_≡_};
-ghost use Prim.Native.Nat.{_<_};
-ghost use lib.Dec.{eqb};
-ghost use lib.ListN.{length};
-ghost use Rattle.replay.specs.Demand3.{depth};
-ghost use Rattle.rows.specs.Register.{rowCount};
-ghost use Rattle.store.specs.Layout.{rowPlace, entryPlace, sessionBytes};
+ghost use Rattle.store.specs.Layout.{isSession};
 
 // The bytes of a session.
 pub const SESSION: usize = 24704;
@@ -27,9 +21,9 @@ pub(crate) const BOOK_BYTES: usize = 44;
 pub(crate) const ROWS: usize = 56;
 
 // The log: an entry keeps the book, and twice a row's number and that row.
-const LOG: usize = 1664;
+pub(crate) const LOG: usize = 1664;
 
-const ENTRY: usize = 180;
+pub(crate) const ENTRY: usize = 180;
 
 // Where an entry keeps its two rows' numbers, counted from its start. The row stands behind its number.
 pub(crate) const ONE: usize = 44;
@@ -38,23 +32,7 @@ pub(crate) const OTHER: usize = 112;
 
 // Are there as many bytes as a session has?
 pub fn is_session(s: &[u8]) -> bool
-    ensures { λ r. ⌜ r ≡ eqb (length (now (s .entry))) sessionBytes ⌝ }
+    ensures { λ r. ⌜ r ≡ isSession (now (s .entry)) ⌝ }
 {
     s.len() == SESSION
-}
-
-// Row i of the register, counted from 0.
-pub(crate) fn row_place(i: usize) -> usize
-    requires { ⌜ i < rowCount ⌝ }
-    ensures { λ r. ⌜ r ≡ rowPlace i ⌝ }
-{
-    ROWS + row::ROW * i
-}
-
-// The entry at a place of the ring.
-pub(crate) fn entry_place(p: usize) -> usize
-    requires { ⌜ p < depth ⌝ }
-    ensures { λ r. ⌜ r ≡ entryPlace p ⌝ }
-{
-    LOG + ENTRY * p
 }

@@ -1,20 +1,20 @@
 // An effect taken into the bytes: the entry that undoes it is kept first, then the header, the book and the rows are put.
-use crate::copied;
 use crate::effect::Change;
 use crate::effect::Effect;
 use crate::layout;
 use crate::view;
 use packets::numbers;
+use rows::register;
 use rows::row;
 use trains::kinds::LAST_SLOT;
 use trains::kinds::Slot;
 ghost use mathlib.Core.Path.{_≡_};
-ghost use Prim.Native.Nat.{_+_, _^_, _<_, _≤_};
+ghost use Prim.Native.Nat.{_+_, _<_, _≤_};
 ghost use lib.ListN.{length};
 ghost use Rattle.rows.specs.Register.{rowCount};
-ghost use Rattle.store.specs.Effect.{InBounds};
+ghost use Rattle.store.specs.Effect.{InBounds, inBounds};
 ghost use Rattle.store.specs.Layout.{sessionBytes, logAt, entryBytes, keptRowBytes};
-ghost use Rattle.store.specs.Settled.{rowKept, entryKept, headed, bookMarked, changePut, pushed, settled};
+ghost use Rattle.store.specs.Settled.{rowKept, entryKept, bookMarked, changePut, pushed, settled, settledIn};
 
 // A row's number and the row, kept in the log from a byte on.
 fn keep_row(s: &mut [u8], i: usize, at: usize)
@@ -22,7 +22,7 @@ fn keep_row(s: &mut [u8], i: usize, at: usize)
     ensures { λ _. ⌜ now (s .exit) ≡ rowKept (now (s .entry)) i at ⌝ }
 {
     numbers::put_byte(s, at, i as u32);
-    copied::copy_bytes(s, row::ROW, layout::row_place(i), at + 1);
+    crate::copy_bytes(s, row::ROW, crate::row_place(i), at + 1);
 }
 
 // The book and two rows, kept in the entry that starts at a byte.
@@ -30,18 +30,9 @@ fn keep_entry(s: &mut [u8], i: usize, j: usize, at: usize)
     requires { ⌜ (length (now s) ≡ sessionBytes) × (i < rowCount) × (j < rowCount) × (logAt ≤ at) × (at + entryBytes ≤ sessionBytes) ⌝ }
     ensures { λ _. ⌜ now (s .exit) ≡ entryKept (now (s .entry)) i j at ⌝ }
 {
-    copied::copy_bytes(s, layout::BOOK_BYTES, layout::BOOK, at);
+    crate::copy_bytes(s, layout::BOOK_BYTES, layout::BOOK, at);
     keep_row(s, i, at + layout::ONE);
     keep_row(s, j, at + layout::OTHER);
-}
-
-pub(crate) fn put_header(s: &mut [u8], counter: u32, kept: usize, head: usize)
-    requires { ⌜ (kept < 2 ^ 32) × (head < 2 ^ 32) ⌝ }
-    ensures { λ _. ⌜ now (s .exit) ≡ headed (now (s .entry)) counter kept head ⌝ }
-{
-    numbers::put_word(s, layout::COUNTER, counter);
-    numbers::put_word(s, layout::KEPT, kept as u32);
-    numbers::put_word(s, layout::HEAD, head as u32);
 }
 
 // The entry of two rows pushed, and the counter set.
@@ -51,8 +42,8 @@ fn push(s: &mut [u8], counter: u32, i: usize, j: usize)
 {
     let head = view::head(s);
     let kept = replay::kept_after(view::kept(s));
-    keep_entry(s, i, j, layout::entry_place(head));
-    put_header(s, counter, kept, replay::place_after(head));
+    keep_entry(s, i, j, crate::entry_place(head));
+    crate::put_header(s, counter, kept, replay::place_after(head));
 }
 
 // A slot marked in the book; one that is none of the book's marks nothing.
@@ -84,7 +75,7 @@ fn put_change(s: &mut [u8], change: Change)
     ensures { λ _. ⌜ now (s .exit) ≡ changePut (now (s .entry)) change ⌝ }
 {
     let train = change.train;
-    row::put_row(s, layout::row_place(change.row), train);
+    row::put_row(s, crate::row_place(change.row), train);
 }
 
 fn put_changes(s: &mut [u8], one: Change, other: Change)
@@ -95,8 +86,8 @@ fn put_changes(s: &mut [u8], one: Change, other: Change)
     put_change(s, other);
 }
 
-// The one way in which an accepted operation changes a session.
-pub fn settle(s: &mut [u8], counter: u32, effect: Effect)
+// An effect that can be taken in.
+fn take_in(s: &mut [u8], counter: u32, effect: Effect)
     requires { ⌜ (length (now s) ≡ sessionBytes) × InBounds effect ⌝ }
     ensures { λ _. ⌜ now (s .exit) ≡ settled (now (s .entry)) counter effect ⌝ }
 {
@@ -105,4 +96,30 @@ pub fn settle(s: &mut [u8], counter: u32, effect: Effect)
     push(s, counter, one.row, other.row);
     mark_slots(s, effect.start.0, effect.slots, effect.mark);
     put_changes(s, one, other);
+}
+
+// The effect's rows are the register's, and its mark is a byte.
+fn in_bounds(effect: Effect) -> bool
+    ensures { λ r. ⌜ r ≡ inBounds effect ⌝ }
+{
+    let one = effect.one;
+    let other = effect.other;
+    if one.row >= register::ROWS {
+        return false;
+    }
+    if other.row >= register::ROWS {
+        return false;
+    }
+    effect.mark < 256
+}
+
+// The one way in which an accepted operation changes a session. Bytes of another length, and an effect out of bounds, are left alone.
+pub fn settle(s: &mut [u8], counter: u32, effect: Effect)
+    ensures { λ _. ⌜ now (s .exit) ≡ settledIn (now (s .entry)) counter effect ⌝ }
+{
+    if layout::is_session(s) {
+        if in_bounds(effect) {
+            take_in(s, counter, effect);
+        }
+    }
 }

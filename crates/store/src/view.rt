@@ -40,7 +40,7 @@ pub fn train(s: &[u8], i: usize) -> Train
     ensures { λ r. ⌜ r ≡ rowIn (viewOf (now (s .entry))) i ⌝ }
 {
     if i < register::ROWS {
-        row::row_at(s, layout::row_place(i))
+        row::row_at(s, crate::row_place(i))
     } else {
         Train::blank()
     }

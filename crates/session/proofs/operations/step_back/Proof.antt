@@ -1,5 +1,6 @@
 -- `session::operations::step_back` meets its contract. Assumes nothing.
 use mathlib.Core.Path.{_≡_, sym, ap, _∙_}
+use Rattle.store.proofs.BoundsLaws.{stepped-in}
 use Rattle.session.proofs.OperationLaws.{is-session, no-session}
 use Rattle.session.proofs.OperationLaws.{back-refused, back-taken}
 use native.Mathlib.Omega.{arith}
@@ -27,7 +28,7 @@ cast-accepted c = omega (arith, c .before .before .before .before .before .kept 
 returns-3 : tie.Need-returns-3
 returns-3 c = let a = c .before .before .before .before .before .before .before .before .before .before .args in
     let w = back-taken (a .session .now) (a .k) (c .before .before .before .before .before .before .before .before .if1 .left) (omega (arith, c .before .before .before .before .before .before .kept .ensures, c .before .before .before .before .before .if2 .left)) in
-    (c .accepted .ensures ∙ ap (λ (n : ℕ). acceptedWith (n - a .k) 0 0) (c .before .before .before .before .before .before .kept .ensures) ∙ w .0, c .before .before .before .step-back .ensures ∙ w .1)
+    (c .accepted .ensures ∙ ap (λ (n : ℕ). acceptedWith (n - a .k) 0 0) (c .before .before .before .before .before .before .kept .ensures) ∙ w .0, c .before .before .before .step-back .ensures ∙ stepped-in (a .k) (a .session .now) (c .before .before .before .before .before .before .before .before .if1 .left) ∙ w .1)
 
 pub step-back-spec : {M : Type 1} → statement M
 step-back-spec =

@@ -1,44 +1,23 @@
--- `store::back::step_back` meets its contract. The invariant: what is left to undo, undone, is all of it.
-use mathlib.Core.Path.{_≡_, refl, sym, ap, _∙_}
-use Prim.Native.Nat.{_-_}
-use native.Mathlib.Omega.{arith}
-use lib.ListN.{length}
-use Rattle.store.specs.Back.{steppedBy}
-use Rattle.store.specs.Layout.{sessionBytes}
-use Rattle.store.proofs.BackLaws.{stepped-by-one, stepped-by-none}
-use Rattle.store.proofs.Sizes.{length-stepped}
+-- `store::back::step_back` meets its contract.
+use mathlib.Core.Path.{_≡_, sym, _∙_}
+use borrow.Author.Tests.{eqb-true}
+use Rattle.store.specs.Back.{steppedIn}
+use Rattle.store.proofs.BoundsLaws.{stepped-in}
 use borrow.Author.Needs.{needs}
 use Rattle.store.proofs.back.step_back.Statement.{statement}
 use Rattle.store.proofs.back.step_back.Tie as tie
 
-abbrev Inv-loop : tie.InvT-loop
-Inv-loop s₀ k left₀ s left = (length s ≡ sessionBytes) × (steppedBy left s ≡ steppedBy k s₀)
+returns : tie.Need-returns
+returns c = c .before .before .undo .ensures ∙ sym (stepped-in _ _ (eqb-true _ _ (sym (c .before .before .before .before .before .is-session .ensures) ∙ c .before .before .before .before .if1 .taken)))
 
-abbrev μ-loop : tie.MeasureT-loop
-μ-loop s₀ k left₀ s left = left
-
-loop-holds : tie.Need-loop-holds Inv-loop μ-loop
-loop-holds c = (search needs, refl)
-
-loop-again : tie.Need-loop-again Inv-loop μ-loop
-loop-again c =
-    let l = c .before .before .before .before .before .loop in
-    let e = c .before .before .step-one .ensures in (
-      ap length e ∙ length-stepped (l .s) ∙ l .inv .0,
-      ap (steppedBy (l .left - 1)) e ∙ stepped-by-one (l .left) (l .s) (omega arith) ∙ l .inv .1,
-    )
-
-same-length : tie.Need-same-length Inv-loop μ-loop
-same-length c = c .before .loop .inv .0 ∙ sym (c .before .before .before .pre)
-
-returns : tie.Need-returns Inv-loop μ-loop
-returns c =
-    let l = c .before .loop in
-    stepped-by-none (l .left) (l .s) (c .loop-test .left) ∙ l .inv .1
+returns-2 : tie.Need-returns-2
+unfolding steppedIn
+returns-2 c = simp (sym (c .before .is-session .ensures) ∙ c .if1 .left)
 
 pub step-back-spec : {M : Type 1} → statement M
 step-back-spec =
     tie.close
     (tie.spec
-    Inv-loop μ-loop loop-holds (λ c κs. search needs) (λ c. search needs) (λ c. search needs) loop-again same-length
-    returns)
+    (λ c κs. search needs)
+    (λ c κs. eqb-true _ _ (sym (c .before .before .is-session .ensures) ∙ c .before .if1 .taken)) (λ c. search needs)
+    returns (λ c. search needs) returns-2)

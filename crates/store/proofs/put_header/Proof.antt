@@ -1,11 +1,11 @@
--- `store::settled::put_header` meets its contract.
+-- `store::put_header` meets its contract.
 use mathlib.Core.Path.{_∙_}
 use Rattle.packets.specs.Numbers.{putNumber}
 use Rattle.store.specs.Layout.{keptAt, headAt}
 use Rattle.store.specs.Settled.{headed}
 use borrow.Author.Needs.{needs}
-use Rattle.store.proofs.settled.put_header.Statement.{statement}
-use Rattle.store.proofs.settled.put_header.Tie as tie
+use Rattle.store.proofs.put_header.Statement.{statement}
+use Rattle.store.proofs.put_header.Tie as tie
 
 returns : tie.Need-returns
 unfolding headed

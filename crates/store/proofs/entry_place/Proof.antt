@@ -1,8 +1,8 @@
--- `store::layout::entry_place` meets its contract.
+-- `store::entry_place` meets its contract.
 use Rattle.replay.specs.Demand3.{depth}
 use borrow.Author.Needs.{needs}
-use Rattle.store.proofs.layout.entry_place.Statement.{statement}
-use Rattle.store.proofs.layout.entry_place.Tie as tie
+use Rattle.store.proofs.entry_place.Statement.{statement}
+use Rattle.store.proofs.entry_place.Tie as tie
 
 mul-result : tie.Need-mul-result
 unfolding depth

@@ -1,4 +1,4 @@
--- `store::copied::copy_bytes` meets its contract. The invariant: the first i bytes are copied.
+-- `store::copy_bytes` meets its contract. The invariant: the first i bytes are copied.
 use mathlib.Core.Path.{_≡_, sym, ap, _∙_}
 use Prim.Native.Nat.{ℕ, _+_, _-_, _≤_}
 use mathlib.Core.List.{List}
@@ -8,8 +8,8 @@ use lib.ListN.{length, getD, set}
 use Rattle.store.specs.Copied.{copied}
 use Rattle.store.proofs.Stretches.{length-copied, copied-zero, copied-suc}
 use borrow.Author.Needs.{needs}
-use Rattle.store.proofs.copied.copy_bytes.Statement.{statement}
-use Rattle.store.proofs.copied.copy_bytes.Tie as tie
+use Rattle.store.proofs.copy_bytes.Statement.{statement}
+use Rattle.store.proofs.copy_bytes.Tie as tie
 
 abbrev Inv-loop : tie.InvT-loop
 Inv-loop s₀ n from to i₀ s i = (i ≤ n) × (s ≡ copied s₀ i from to)
