@@ -1,0 +1,3 @@
+pub mod RulesLaws
+pub mod KeptLaws
+pub mod Theorem
