@@ -1,7 +1,7 @@
 -- LAWS OF THE VIEW: what an operation that is accepted leaves in a session's bytes, and that one that is refused leaves every byte as it was.
 -- Assumes nothing.
 use mathlib.Core.Path.{_≡_, refl, sym, ap, _∙_, subst}
-use mathlib.Core.Bool.{Bool, true, false, cond}
+use mathlib.Core.Bool.{Bool, true, false, true≢false, false≢true, cond}
 use mathlib.Core.List.{List, _∷_}
 use mathlib.Core.Logic.{_⊎_, inl, inr}
 use Prim.Native.Nat.{ℕ, suc, _^_, _≤_, _<_, min}
@@ -34,7 +34,7 @@ use Rattle.session.proofs.SoundLaws.{Sound, sound-bytes, sound-applied}
 -- an operation that is no grant is judged alike under every ticket
 pub ticket-idle : (o : Op) (t u : ℕ) (v : View) → grants o ≡ false → rule o t v ≡ rule o u v
 unfolding grants rule
-ticket-idle (request loco bytes) t u v e = let z : _≡_ {A = ℕ} 0 1 = cc in absurd (omega arith)
+ticket-idle (request loco bytes) t u v e = absurd (true≢false e)
 ticket-idle (release loco ticket) t u v e = refl
 ticket-idle (flags loco ticket fs) t u v e = refl
 ticket-idle (position loco ticket front rear) t u v e = refl
@@ -47,13 +47,13 @@ ticket-idle (clear loco ticket other) t u v e = refl
 pub grant-ticket : (o : Op) (t : ℕ) (v : View) → grants o ≡ true → Answers t (rule o t v)
 unfolding grants rule
 grant-ticket (request loco bytes) t v e = request-ticket loco bytes t v
-grant-ticket (release loco ticket) t v e = let z : _≡_ {A = ℕ} 0 1 = cc in absurd (omega arith)
-grant-ticket (flags loco ticket fs) t v e = let z : _≡_ {A = ℕ} 0 1 = cc in absurd (omega arith)
-grant-ticket (position loco ticket front rear) t v e = let z : _≡_ {A = ℕ} 0 1 = cc in absurd (omega arith)
-grant-ticket (authority loco ticket end) t v e = let z : _≡_ {A = ℕ} 0 1 = cc in absurd (omega arith)
-grant-ticket (danger loco ticket location) t v e = let z : _≡_ {A = ℕ} 0 1 = cc in absurd (omega arith)
-grant-ticket (sos loco2 ticket2 loco1 ticket1 grid) t v e = let z : _≡_ {A = ℕ} 0 1 = cc in absurd (omega arith)
-grant-ticket (clear loco ticket other) t v e = let z : _≡_ {A = ℕ} 0 1 = cc in absurd (omega arith)
+grant-ticket (release loco ticket) t v e = absurd (false≢true e)
+grant-ticket (flags loco ticket fs) t v e = absurd (false≢true e)
+grant-ticket (position loco ticket front rear) t v e = absurd (false≢true e)
+grant-ticket (authority loco ticket end) t v e = absurd (false≢true e)
+grant-ticket (danger loco ticket location) t v e = absurd (false≢true e)
+grant-ticket (sos loco2 ticket2 loco1 ticket1 grid) t v e = absurd (false≢true e)
+grant-ticket (clear loco ticket other) t v e = absurd (false≢true e)
 
 -- an accepted ruling leads from a sound view to a sound one
 pub rule-sound : (o : Op) (t : ℕ) (v : View) → Sound v → Sound (applied v (rule o t v .effect))

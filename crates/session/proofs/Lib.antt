@@ -8,3 +8,4 @@ pub mod SoundLaws
 pub mod ShareLaws
 pub mod FitLaws
 pub mod AfterLaws
+pub mod ZeroLaws

@@ -6,7 +6,7 @@ use mathlib.Core.Logic.{⊎-elim, _⊎_, inl, inr}
 use Prim.Native.Nat.{ℕ, suc, _-_, _≤_, _<_}
 use native.Mathlib.Decide.{ℕ-discrete}
 use native.Mathlib.Omega.{arith}
-use borrow.Author.Tests.{eq-eqb, ne-eqb, le-leb, lt-leb}
+use borrow.Author.Tests.{le-leb, lt-leb}
 use lib.Dec.{leb}
 use lib.ListN.{length, take, drop}
 use Rattle.packets.proofs.FieldLaws.{lt-or-le}
@@ -32,6 +32,7 @@ use Rattle.session.proofs.OperationLaws.{is-session, back-refused, back-taken}
 use Rattle.standing.specs.Told.{Reply, replyOf, ticketTold, told}
 use Rattle.standing.specs.Standing.{outcome, rules, Lent, answered, left, session}
 use Rattle.standing.proofs.RulesLaws.{outcome-accepted, outcome-refused}
+use Rattle.standing.proofs.ToldLaws.{told-took, told-back, told-refused, refuses}
 
 ready-of : {bs : List ℕ} → Lent bs → Ready bs
 ready-of l = record { size = l .size; bytes = l .bytes }
@@ -42,26 +43,6 @@ lent-of r = record { size = r .size; bytes = r .bytes }
 -- what the bytes stand for
 abbrev state : List ℕ → State View Entry
 state bs = record { view = viewOf bs; counter = counterOf bs; log = logOf bs }
-
--- ---- what an answer tells
-
-told-took : (o : Op) (a : Answer) → a .answer ≡ 0 → told (op o) a ≡ took (ticketTold o a) (replyOf a)
-unfolding told
-told-took o a h = rw (eq-eqb (a .answer) 0 h)
-
-told-back : (k : ℕ) (a : Answer) → a .answer ≡ 0 → told (back k) a ≡ wentBack (a .first)
-unfolding told
-told-back k a h = rw (eq-eqb (a .answer) 0 h)
-
-told-refused : (c : Call Op) (a : Answer) → (a .answer ≡ 0 → ⊥) → told c a ≡ refused (a .answer)
-unfolding told
-told-refused (op o) a h = rw (ne-eqb (a .answer) 0 h)
-told-refused (back k) a h = rw (ne-eqb (a .answer) 0 h)
-
--- what tells of a refusal refuses
-refuses : (c : Call Op) (a : Answer) (n : ℕ) → refused n ≡ told c a → a .answer ≡ 0 → ⊥
-refuses (op o) a n e h = let t = told-took o a h in let z : _≡_ {A = ℕ} 0 1 = cc in omega arith
-refuses (back k) a n e h = let t = told-back k a h in let z : _≡_ {A = ℕ} 0 1 = cc in omega arith
 
 -- ---- an operation
 

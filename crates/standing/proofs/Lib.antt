@@ -1,3 +1,4 @@
 pub mod RulesLaws
+pub mod ToldLaws
 pub mod KeptLaws
 pub mod Theorem

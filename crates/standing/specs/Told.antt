@@ -5,6 +5,7 @@ use Prim.Native.Nat.{ℕ}
 use lib.Dec.{eqb}
 use Rattle.replay.specs.Demand3.{Call, op, back, Answer as Told, took, wentBack, refused}
 use Rattle.session.specs.Rules.{Op, grants}
+use Rattle.session.specs.Ruling.{acceptedWith, refusedWith}
 use Rattle.session.specs.declared.ruling.Answer.{Answer}
 
 -- the three numbers of an answer
@@ -29,3 +30,9 @@ ticketTold o a = cond (grants o) (a .first) 0
 unfoldable pub told : Call Op → Answer → Told Reply
 told (op o) a = cond (accepts a) (took (ticketTold o a) (replyOf a)) (refused (a .answer))
 told (back k) a = cond (accepts a) (wentBack (a .first)) (refused (a .answer))
+
+-- the answer that tells it: nothing of an answer is lost
+unfoldable pub answerBy : Told Reply → Answer
+answerBy (took t r) = acceptedWith (r .first) (r .second) (r .third)
+answerBy (wentBack n) = acceptedWith n 0 0
+answerBy (refused n) = refusedWith n
