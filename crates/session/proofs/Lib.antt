@@ -4,3 +4,8 @@ pub mod NamedLaws
 pub mod BoundLaws
 pub mod OperationLaws
 pub mod RequestLaws
+pub mod SoundLaws
+pub mod ShareLaws
+pub mod FitLaws
+pub mod AfterLaws
+pub mod ZeroLaws

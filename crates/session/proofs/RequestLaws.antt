@@ -4,7 +4,10 @@ use mathlib.Core.Bool.{Bool, true, false}
 use mathlib.Core.List.{List}
 use native.Mathlib.Decide.{ℕ-discrete}
 use native.Mathlib.Omega.{arith}
-use Prim.Native.Nat.{ℕ, suc}
+use Prim.Native.Nat.{ℕ, suc, _≤_}
+use borrow.Author.Tests.{leb-true, not-false}
+use lib.Dec.{leb}
+use Rattle.trains.specs.Kinds.{lastTicket}
 use Rattle.trains.specs.declared.found.Found.{Found}
 use Rattle.trains.specs.declared.found.Found.the-variants.{Nothing, Index}
 use Rattle.trains.specs.declared.kinds.Loco.{Loco}
@@ -16,14 +19,14 @@ use Rattle.session.specs.Rules.{Op, request, grants, rule, counterAfter}
 use Rattle.session.specs.Ruling.{refused, when, withFound}
 use Rattle.session.proofs.OperationLaws.{not-taken}
 
--- an accepted ruling answers the ticket first
-abbrev Answers : ℕ → Ruling → Type 0
-Answers ticket r = r .answer .answer ≡ 0 → r .answer .first ≡ ticket
+-- an accepted ruling answers the ticket first, and it is a ticket
+abbrev pub Answers : ℕ → Ruling → Type 0
+Answers ticket r = r .answer .answer ≡ 0 → (r .answer .first ≡ ticket) × (ticket ≤ lastTicket)
 
-answers-when : (ticket : ℕ) (test : Bool) (ground : ℕ) (next : Ruling) → Answers ticket next → Answers ticket (when test (suc ground) next)
+answers-when : (ticket : ℕ) (test : Bool) (ground : ℕ) (next : Ruling) → (test ≡ false → Answers ticket next) → Answers ticket (when test (suc ground) next)
 unfolding when
 answers-when ticket true ground next h e = absurd (omega arith)
-answers-when ticket false ground next h e = h e
+answers-when ticket false ground next h e = h refl e
 
 answers-found : (ticket : ℕ) (f : Found) (ground : ℕ) (next : ℕ → Ruling) → ((k : ℕ) → Answers ticket (next k)) → Answers ticket (withFound f (suc ground) next)
 unfolding withFound
@@ -33,10 +36,12 @@ answers-found ticket (Index k) ground next h e = h k e
 pub request-ticket : (loco : Loco) (bytes ticket : ℕ) (v : View) → Answers ticket (requested loco bytes ticket v)
 unfolding requested placed granted
 request-ticket loco bytes ticket v =
-    answers-when ticket _ _ _
-    (answers-when ticket _ _ _
-    (answers-when ticket _ _ _
-    (answers-found ticket _ _ _ (λ row. answers-when ticket _ _ _ (answers-found ticket _ _ _ (λ start e. refl))))))
+    answers-when ticket _ _ _ λ _.
+    answers-when ticket _ _ _ λ _.
+    answers-when ticket _ _ _ λ _.
+    answers-found ticket _ _ _ λ row.
+    answers-when ticket _ _ _ λ left.
+    answers-found ticket _ _ _ λ start e. (refl, leb-true ticket lastTicket (not-false (leb ticket lastTicket) left))
 
 -- so the counter that is set is the rules' counter
 pub request-counter : (bs : List ℕ) (loco : Loco) (bytes : ℕ) (r : Ruling) → r ≡ judged bs (request loco bytes)
@@ -48,5 +53,5 @@ request-counter bs loco bytes r e = of (ℕ-discrete (r .answer .answer) 0)
     ticket = subst (Answers (suc (counterOf bs))) (sym e) (request-ticket loco bytes (suc (counterOf bs)) (viewOf bs))
 
     of : Dec (r .answer .answer ≡ 0) → taken bs (r .answer .first) r ≡ taken bs (suc (counterOf bs)) r
-    of (yes h) = ap (λ (k : ℕ). taken bs k r) (ticket h)
+    of (yes h) = ap (λ (k : ℕ). taken bs k r) (ticket h .0)
     of (no h) = sym (not-taken bs (r .answer .first) r h) ∙ not-taken bs (suc (counterOf bs)) r h

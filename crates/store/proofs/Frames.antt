@@ -93,7 +93,8 @@ bytes-slot-marked book slot mark h m = by (oneTo lastSlot slot)
     by true = bytes-set book (slot - 1) mark h m
     by false = h
 
-bytes-marked : (book : List ℕ) (slot n mark : ℕ) → Bytes book → mark < 256 → Bytes (marked book slot n mark)
+-- slots marked by a byte leave bytes
+pub bytes-marked : (book : List ℕ) (slot n mark : ℕ) → Bytes book → mark < 256 → Bytes (marked book slot n mark)
 unfolding marked
 bytes-marked book slot zero mark h m = h
 bytes-marked book slot (suc n) mark h m = bytes-marked (slotMarked book slot mark) (suc slot) n mark (bytes-slot-marked book slot mark h m) m

@@ -1,0 +1,4 @@
+pub mod RulesLaws
+pub mod ToldLaws
+pub mod KeptLaws
+pub mod Theorem

@@ -1,0 +1,11 @@
+// What an answer tells of its call.
+use session::ruling::Answer;
+ghost use mathlib.Core.Path.{_≡_};
+ghost use Rattle.standing.specs.Told.{accepts};
+
+// The call was accepted.
+pub fn is_accepted(answer: Answer) -> bool
+    ensures { λ r. ⌜ r ≡ accepts answer ⌝ }
+{
+    answer.answer == 0
+}
