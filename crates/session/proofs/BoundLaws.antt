@@ -7,7 +7,7 @@ use Rattle.modes.specs.declared.Step.{Step}
 use Rattle.modes.specs.Next.{nextStep}
 use Rattle.rows.specs.Register.{rowCount}
 use Rattle.rows.specs.declared.register.Sought.{Sought}
-use Rattle.rows.specs.declared.register.Sought.the-variants.{Pair, Number, Empty}
+use Rattle.rows.specs.declared.register.Sought.the-variants.{Number, Empty}
 use Rattle.trains.proofs.FoundLaws.{first-below}
 use Rattle.trains.specs.Found.{first}
 use Rattle.trains.specs.Kinds.{locoInRange}
@@ -62,7 +62,7 @@ named-choice false v f ground h = omega arith
 -- a named train stands in the register
 pub named-row : (loco : Loco) (ticket : Ticket) (v : View) → namedIn loco ticket v .row < rowCount
 unfolding namedIn
-named-row loco ticket v = named-choice (locoInRange loco) v (findIn v (Pair loco ticket)) _ (found-row v (Pair loco ticket))
+named-row loco ticket v = named-choice (locoInRange loco) v (findIn v _) _ (found-row v _)
 
 bounded-named : (n : Named) (next : ℕ → Train → Ruling) → Bounded (next (n .row) (n .train)) → Bounded (onNamed n next)
 unfolding onNamed
