@@ -1,13 +1,13 @@
 -- Laws of the slot book: the search for a run, a turn at a time, and what it finds. Assumes nothing.
 use mathlib.Core.Path.{_≡_, refl, sym, ap, _∙_}
-use mathlib.Core.Bool.{Bool, true, false, not}
+use mathlib.Core.Bool.{Bool, true, false, not, and-eq-true-iff}
 use mathlib.Core.List.{List}
 use mathlib.Core.Logic.{_⊎_, inl, inr}
 use Prim.Native.Nat.{ℕ, suc, _+_, _-_, _≤_, _<_}
 use native.Mathlib.Numerals.{add-one}
 use native.Mathlib.Omega.{arith}
-use borrow.Author.Tests.{le-leb, lt-leb}
-use lib.Dec.{eqb}
+use borrow.Author.Tests.{le-leb, lt-leb, leb-true}
+use lib.Dec.{eqb, leb}
 use lib.ListN.{getD}
 use Rattle.trains.specs.Found.{first}
 use Rattle.trains.specs.Kinds.{lastSlot}
@@ -16,7 +16,7 @@ use Rattle.trains.specs.declared.found.Found.{Found}
 use Rattle.trains.specs.declared.found.Found.the-variants.{Nothing, Index}
 use Rattle.trains.proofs.FoundLaws.{first-hit, first-miss, first-end, first-below, first-true, first-before, Before}
 use Rattle.store.specs.View.{isTaken}
-use Rattle.session.specs.Slots.{isFree, isRun, lowestRun}
+use Rattle.session.specs.Slots.{bytesPerSlot, mostSlots, isRequest, slotsFor, isFree, isRun, lowestRun}
 
 -- a slot of the book is free exactly when it is not taken
 pub free-in : (book : List ℕ) (slot : ℕ) → oneTo lastSlot slot ≡ true → not (isTaken book slot) ≡ isFree book slot
@@ -100,3 +100,15 @@ run-free book n s e = first-true (λ start. isRun book start n) 1 lastSlot s e
 pub run-lowest : (book : List ℕ) (n k : ℕ) → 1 ≤ k → k ≤ lastSlot → Before k (lowestRun book n) → isRun book k n ≡ false
 unfolding lowestRun
 run-lowest book n k l h b = first-before (λ start. isRun book start n) 1 lastSlot k l (omega arith) b
+
+-- ---- requests
+
+-- a request is small
+pub request-small : (bytes : ℕ) → isRequest bytesPerSlot bytes ≡ true → bytes ≤ 324
+unfolding oneTo
+request-small bytes e = leb-true bytes 324 (and-eq-true-iff (leb 1 bytes) (leb bytes 324) .0 e .1)
+
+-- so it needs few slots
+pub slots-few : (bytes : ℕ) → bytes ≤ 324 → slotsFor bytesPerSlot bytes ≤ mostSlots
+unfolding slotsFor
+slots-few bytes h = omega arith
