@@ -15,8 +15,8 @@ use Rattle.store.specs.View.{View, viewOf, counterOf}
 use Rattle.session.specs.declared.ruling.Ruling.{Ruling}
 use Rattle.session.specs.Answers.{judged, taken}
 use Rattle.session.specs.Registering.{granted, placed, requested}
-use Rattle.session.specs.Rules.{Op, request, grants, rule, counterAfter}
-use Rattle.session.specs.Ruling.{refused, when, withFound}
+use Rattle.session.specs.Rules.{request, grants, rule, counterAfter}
+use Rattle.session.specs.Ruling.{when, withFound}
 use Rattle.session.proofs.OperationLaws.{not-taken}
 
 -- an accepted ruling answers the ticket first, and it is a ticket

@@ -2,17 +2,17 @@
 use mathlib.Core.Path.{_≡_, refl, sym, ap, _∙_, subst, subst₂}
 use mathlib.Core.Bool.{Bool, true, false, cond}
 use mathlib.Core.List.{List, [], _∷_}
-use mathlib.Core.Logic.{⊎-elim, _⊎_, inl, inr}
+use mathlib.Core.Logic.{⊎-elim}
 use Prim.Native.Nat.{ℕ, suc, _-_, _≤_, _<_}
 use native.Mathlib.Decide.{ℕ-discrete}
 use native.Mathlib.Omega.{arith}
 use borrow.Author.Tests.{le-leb, lt-leb}
 use lib.Dec.{leb}
-use lib.ListN.{length, take, drop}
+use lib.ListN.{length, take}
 use Rattle.packets.proofs.FieldLaws.{lt-or-le}
-use Rattle.replay.specs.Rules.{Outcome, accept, refuse}
+use Rattle.replay.specs.Rules.{accept, refuse}
 use Rattle.replay.specs.Demand3.{Call, op, back, Answer as Told, took, wentBack, refused, State, depth, tooFarBack}
-use Rattle.replay.specs.Demand3.{opAnswer, backAnswer as backTold, ticketDue, judged as outcomeOf, Session}
+use Rattle.replay.specs.Demand3.{opAnswer, backAnswer as backTold, ticketDue, judged as outcomeOf}
 use Rattle.replay.specs.Machine.{counterAfter as counterDue, acted, undoAll, undone as wound, step}
 use Rattle.replay.specs.Kept.{Steps, Kept}
 use Rattle.replay.proofs.Rings.{length-readBack}
@@ -22,7 +22,7 @@ use Rattle.store.specs.Log.{Entry, saved, undone, entryIn, logOf}
 use Rattle.store.specs.View.{View, viewOf, counterOf, keptOf, headOf}
 use Rattle.store.proofs.BackLaws.{undoneAll, stepped-by-ready, stepped-by-view, stepped-by-counter, stepped-by-log}
 use Rattle.store.proofs.Frames.{Ready}
-use Rattle.session.specs.Answers.{judged, answerTo, bytesAfter, backAnswer, backAfter}
+use Rattle.session.specs.Answers.{judged, answerTo, bytesAfter}
 use Rattle.session.specs.Rules.{Op, grants, rule, counterAfter}
 use Rattle.session.specs.Ruling.{acceptedWith, refusedWith}
 use Rattle.session.specs.declared.ruling.Answer.{Answer}

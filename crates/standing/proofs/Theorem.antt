@@ -1,8 +1,8 @@
 -- DEMAND 3 OF THE BYTES: after any calls with any arguments, answered and done as the contracts of the nine operations and of the step back say.
 -- Assumes nothing.
 use mathlib.Core.Path.{_≡_, refl, sym, ap, _∙_, subst}
-use mathlib.Core.List.{List, []}
-use Prim.Native.Nat.{ℕ, suc, _+_, _≤_, _<_}
+use mathlib.Core.List.{List}
+use Prim.Native.Nat.{ℕ, suc, _<_}
 use native.Mathlib.Omega.{arith}
 use lib.ListN.{length, getD}
 use Rattle.replay.specs.Rules.{lastTicket}
@@ -13,12 +13,12 @@ use Rattle.replay.proofs.Numbered.{tickets-numbered}
 use Rattle.replay.proofs.Played.{played}
 use Rattle.store.specs.Emptied.{emptied}
 use Rattle.store.specs.Layout.{sessionBytes}
-use Rattle.store.specs.View.{View, counterOf}
+use Rattle.store.specs.View.{counterOf}
 use Rattle.store.proofs.EmptyLaws.{emptied-ready, emptied-counter, emptied-log}
 use Rattle.store.proofs.ViewLaws.{view-rows}
 use Rattle.session.specs.Answers.{startAfter}
 use Rattle.session.proofs.OperationLaws.{is-session}
-use Rattle.standing.specs.Standing.{rules, Lent, session}
+use Rattle.standing.specs.Standing.{rules, session}
 use Rattle.standing.proofs.RulesLaws.{lawful}
 use Rattle.standing.proofs.KeptLaws.{kept}
 
