@@ -1,5 +1,5 @@
 -- The session as demand 3 sees it: its rules are the rules of session's contracts, and what a call did to the lent bytes is what the contracts of
--- the nine operations and of the step back name.
+-- the nine operations name (the step back is one of them).
 use mathlib.Core.Path.{_≡_}
 use mathlib.Core.Bool.{cond}
 use mathlib.Core.List.{List}
