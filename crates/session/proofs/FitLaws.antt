@@ -91,7 +91,9 @@ unfolding placed granted
 fit-placed loco slots ticket v row l n =
     fit-unless _ _ _ (λ left.
     fit-found (lowestRun (v .book) slots) _ _ (λ start e.
-    let f : Fits _ = fits-fresh loco (record { 0 = ticket }) (record { 0 = start }) slots l (omega (arith, leb-true ticket lastTicket left)) (omega (arith, run-in (v .book) slots start e)) n in
+    let small : ticket ≤ lastTicket = leb-true ticket lastTicket left in
+    let f : Fits _ =
+    fits-fresh loco (record { 0 = ticket }) (record { 0 = start }) slots l (omega arith) (omega (arith, run-in (v .book) slots start e)) n in
     record { one = f; other = f }))
 
 fit-requested : (loco : Loco) (bytes ticket : ℕ) (v : View) → TrainsFit (requested loco bytes ticket v)

@@ -23,12 +23,14 @@ use Rattle.session.proofs.OperationLaws.{not-taken}
 abbrev pub Answers : ℕ → Ruling → Type 0
 Answers ticket r = r .answer .answer ≡ 0 → (r .answer .first ≡ ticket) × (ticket ≤ lastTicket)
 
-answers-when : (ticket : ℕ) (test : Bool) (ground : ℕ) (next : Ruling) → (test ≡ false → Answers ticket next) → Answers ticket (when test (suc ground) next)
+answers-when : (ticket : ℕ) (test : Bool) (ground : ℕ) (next : Ruling) → (test ≡ false → Answers ticket next)
+    → Answers ticket (when test (suc ground) next)
 unfolding when
 answers-when ticket true ground next h e = absurd (omega arith)
 answers-when ticket false ground next h e = h refl e
 
-answers-found : (ticket : ℕ) (f : Found) (ground : ℕ) (next : ℕ → Ruling) → ((k : ℕ) → Answers ticket (next k)) → Answers ticket (withFound f (suc ground) next)
+answers-found : (ticket : ℕ) (f : Found) (ground : ℕ) (next : ℕ → Ruling) → ((k : ℕ) → Answers ticket (next k))
+    → Answers ticket (withFound f (suc ground) next)
 unfolding withFound
 answers-found ticket Nothing ground next h e = absurd (omega arith)
 answers-found ticket (Index k) ground next h e = h k e
