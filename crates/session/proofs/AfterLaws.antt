@@ -1,6 +1,6 @@
 -- LAWS OF THE VIEW: what an operation that is accepted leaves in a session's bytes, and that one that is refused leaves every byte as it was.
 -- Assumes nothing.
-use mathlib.Core.Path.{_≡_, refl, sym, ap, _∙_, subst}
+use mathlib.Core.Path.{_≡_, refl, sym, ap, _∙_}
 use mathlib.Core.Bool.{Bool, true, false, true≢false, false≢true, cond}
 use mathlib.Core.List.{List, _∷_}
 use mathlib.Core.Logic.{_⊎_, inl, inr}
@@ -19,10 +19,8 @@ use Rattle.store.specs.View.{View, viewOf, counterOf, keptOf}
 use Rattle.store.specs.declared.effect.Effect.{Effect}
 use Rattle.store.proofs.Frames.{Ready}
 use Rattle.store.proofs.SettledLaws.{EffectFits, settled-ready, settled-view, settled-counter, settled-kept, settled-log}
-use Rattle.trains.specs.Kinds.{lastTicket}
 use Rattle.session.specs.declared.ruling.Answer.{Answer}
-use Rattle.session.specs.declared.ruling.Ruling.{Ruling}
-use Rattle.session.specs.Answers.{judged, taken, answerTo, bytesAfter, backAnswer, backAfter}
+use Rattle.session.specs.Answers.{judged, answerTo, bytesAfter, backAnswer, backAfter}
 use Rattle.session.specs.Rules.{Op, request, release, flags, position, authority, danger, sos, clear, grants, rule, counterAfter}
 use Rattle.session.proofs.FitLaws.{fitting}
 use Rattle.session.proofs.OperationLaws.{is-session, no-session, taken-in, not-taken, back-refused, back-taken}

@@ -1,38 +1,49 @@
--- Every ruling's effect is within the register: it can be taken in. Assumes nothing.
-use mathlib.Core.Path.{_≡_, refl, subst, sym}
+-- Every ruling's effect is within the register, so it can be taken in; and a refusal has zeros. Assumes nothing.
+use mathlib.Core.Path.{_≡_, refl}
 use mathlib.Core.Bool.{Bool, true, false, cond}
-use Prim.Native.Nat.{ℕ, _+_, _<_}
+use Prim.Native.Nat.{ℕ, _<_}
 use native.Mathlib.Omega.{arith}
 use Rattle.modes.specs.declared.Step.{Step}
-use Rattle.modes.specs.Next.{nextStep}
 use Rattle.rows.specs.Register.{rowCount}
 use Rattle.rows.specs.declared.register.Sought.{Sought}
-use Rattle.rows.specs.declared.register.Sought.the-variants.{Number, Empty}
+use Rattle.rows.specs.declared.register.Sought.the-variants.{Empty}
 use Rattle.trains.proofs.FoundLaws.{first-below}
-use Rattle.trains.specs.Found.{first}
+use Rattle.trains.specs.Authority.{endOf}
 use Rattle.trains.specs.Kinds.{locoInRange}
 use Rattle.trains.specs.declared.found.Found.{Found}
 use Rattle.trains.specs.declared.found.Found.the-variants.{Nothing, Index}
 use Rattle.trains.specs.declared.kinds.Loco.{Loco}
 use Rattle.trains.specs.declared.kinds.Ticket.{Ticket}
+use Rattle.trains.specs.declared.record.Place.{Place}
+use Rattle.trains.specs.declared.record.Place.the-variants.{Nowhere, At}
 use Rattle.trains.specs.declared.record.Train.{Train}
 use Rattle.store.specs.Effect.{InBounds}
+use Rattle.store.specs.declared.effect.Effect.{Effect}
 use Rattle.store.specs.View.{View, findIn, soughtIn}
 use Rattle.session.specs.declared.named.Named.{Named}
+use Rattle.session.specs.declared.ruling.Answer.{Answer}
 use Rattle.session.specs.declared.ruling.Ruling.{Ruling}
 use Rattle.session.specs.Named.{inRow, namedIn, nobody, onNamed}
 use Rattle.session.specs.Raising.{shared, measured, raised, sosRaised}
 use Rattle.session.specs.Registering.{granted, placed, requested, released}
 use Rattle.session.specs.Rules.{Op, request, release, flags, position, authority, danger, sos, clear, rule}
-use Rattle.session.specs.Ruling.{refused, when, withFound}
-use Rattle.session.specs.Running.{changedTo, moved, authorised, signalled, cleared, stepped, flagged}
+use Rattle.session.specs.Ruling.{refusedWith, accepted, refused, when, withFound}
+use Rattle.session.specs.Running.{endAnswer, changedTo, moved, authorised, signalled, cleared, stepped, flagged}
 
--- a ruling whose effect can be taken in
-abbrev pub Bounded : Ruling → Type 0
-Bounded r = InBounds (r .effect)
+-- an answer that refuses is its ground's number, with zeros
+abbrev pub Plain : Answer → Type 0
+Plain a = (a .answer ≡ 0 → ⊥) → a ≡ refusedWith (a .answer)
+
+-- a ruling whose effect can be taken in, and whose answer is plain
+pub record Bounded (r : Ruling) : Type 0 where
+  pub effect : InBounds (r .effect)
+  pub plain : Plain (r .answer)
 
 bounded-refused : (ground : ℕ) → Bounded (refused ground)
-bounded-refused ground = record { one = omega arith; other = omega arith; mark = omega arith }
+bounded-refused ground = record { effect = record { one = omega arith; other = omega arith; mark = omega arith }; plain = λ n. refl }
+
+bounded-accepted : (a : Answer) (e : Effect) → a .answer ≡ 0 → InBounds e → Bounded (accepted a e)
+bounded-accepted a e h i = record { effect = i; plain = λ n. absurd (n h) }
 
 bounded-when : (test : Bool) (ground : ℕ) (next : Ruling) → Bounded next → Bounded (when test ground next)
 unfolding when
@@ -73,7 +84,7 @@ bounded-named n next h = bounded-when _ _ _ h
 bounded-placed : (loco : Loco) (slots ticket : ℕ) (v : View) (row : ℕ) → row < rowCount → Bounded (placed loco slots ticket v row)
 unfolding placed granted
 bounded-placed loco slots ticket v row h =
-    bounded-when _ _ _ (bounded-found _ _ _ (λ start e. record { one = h; other = h; mark = omega arith }))
+    bounded-when _ _ _ (bounded-found _ _ _ (λ start e. bounded-accepted _ _ refl (record { one = h; other = h; mark = omega arith })))
 
 bounded-requested : (loco : Loco) (bytes ticket : ℕ) (v : View) → Bounded (requested loco bytes ticket v)
 unfolding requested
@@ -82,14 +93,19 @@ bounded-requested loco bytes ticket v =
     (bounded-when _ _ _
     (bounded-when _ _ _ (bounded-found (findIn v Empty) _ _ (λ row e. bounded-placed loco _ ticket v row (found-row v Empty row e)))))
 
+end-accepts : (p : Place) → endAnswer p .answer ≡ 0
+unfolding endAnswer
+end-accepts Nowhere = refl
+end-accepts (At end) = refl
+
 module _ (row : ℕ) (t : Train) (h : row < rowCount) where
   bounded-released : Bounded (released row t)
   unfolding released
-  bounded-released = record { one = h; other = h; mark = omega arith }
+  bounded-released = bounded-accepted _ _ refl (record { one = h; other = h; mark = omega arith })
 
   bounded-changed : (u : Train) → Bounded (changedTo row u)
   unfolding changedTo
-  bounded-changed u = record { one = h; other = h; mark = omega arith }
+  bounded-changed u = bounded-accepted _ _ (end-accepts (endOf u)) (record { one = h; other = h; mark = omega arith })
 
   bounded-moved : (front rear : ℕ) → Bounded (moved front rear row t)
   unfolding moved
@@ -109,7 +125,7 @@ module _ (row : ℕ) (t : Train) (h : row < rowCount) where
 
   bounded-stepped : (s : Step) → Bounded (stepped s row t)
   unfolding stepped
-  bounded-stepped s = bounded-when _ _ _ (record { one = h; other = h; mark = omega arith })
+  bounded-stepped s = bounded-when _ _ _ (bounded-accepted _ _ refl (record { one = h; other = h; mark = omega arith }))
 
 bounded-raised : (grid two : ℕ) (l2 : Train) (one : ℕ) (l1 : Train) → two < rowCount → one < rowCount → Bounded (raised grid two l2 one l1)
 unfolding raised measured shared
@@ -118,9 +134,9 @@ bounded-raised grid two l2 one l1 h g =
     (bounded-when _ _ _
     (bounded-when _ _ _
     (bounded-when _ _ _
-    (bounded-when _ _ _ (bounded-when _ _ _ (record { one = h; other = g; mark = omega arith }))))))
+    (bounded-when _ _ _ (bounded-when _ _ _ (bounded-accepted _ _ refl (record { one = h; other = g; mark = omega arith })))))))
 
--- EVERY RULING can be taken in
+-- EVERY RULING can be taken in, and has zeros where it refuses
 pub bounded : (o : Op) (ticket : ℕ) (v : View) → Bounded (rule o ticket v)
 unfolding rule flagged sosRaised
 bounded (request loco bytes) t v = bounded-requested loco bytes t v

@@ -1,16 +1,15 @@
 -- EVERY RULING on a sound view fits the bytes: a train that is changed still fits its row. Assumes nothing.
-use mathlib.Core.Path.{_≡_, refl, ap, _∙_}
+use mathlib.Core.Path.{_≡_, refl}
 use mathlib.Core.Bool.{Bool, true, false, cond, not, _||_}
 use mathlib.Core.List.{List}
-use Prim.Native.Nat.{ℕ, _+_, _*_, _^_, _≤_, _<_}
+use Prim.Native.Nat.{ℕ, _≤_}
 use native.Mathlib.Omega.{arith}
 use borrow.Author.Tests.{leb-true, eqb-true, not-false}
-use lib.Dec.{eqb, leb}
+use lib.Dec.{eqb}
 use Rattle.modes.specs.declared.Step.{Step}
-use Rattle.modes.specs.Names.{IS}
 use Rattle.modes.specs.Next.{refuses, nextStep}
 use Rattle.modes.proofs.Laws.{refused-exactly-on-its-grounds, next-is-a-mode}
-use Rattle.rows.specs.declared.register.Sought.the-variants.{Pair, Empty}
+use Rattle.rows.specs.declared.register.Sought.the-variants.{Pair}
 use Rattle.rows.proofs.FitLaws.{Byte, Word, PlaceFits, Fits, fits-fresh, fits-position, fits-authority, fits-signal, fits-mode, fits-cleared}
 use Rattle.sos.specs.Grids.{measureOf, cellOf}
 use Rattle.sos.specs.Shares.{margin, shareOfL1, shareOfL2}
@@ -18,12 +17,11 @@ use Rattle.trains.specs.Changes.{withMode}
 use Rattle.trains.proofs.RangeLaws.{one-to, position-ends}
 use Rattle.trains.specs.Kinds.{lastLoco, lastTicket, locoInRange}
 use Rattle.trains.specs.Orders.{hasOrder}
-use Rattle.trains.specs.Ranges.{none, lastLocation, isLocation, isPosition, isPlace, placeOf}
+use Rattle.trains.specs.Ranges.{none, lastLocation, isLocation, isPlace, placeOf}
 use Rattle.trains.specs.declared.found.Found.{Found}
 use Rattle.trains.specs.declared.found.Found.the-variants.{Nothing, Index}
 use Rattle.trains.specs.declared.kinds.Loco.{Loco}
 use Rattle.trains.specs.declared.kinds.Ticket.{Ticket}
-use Rattle.trains.specs.declared.record.Place.{Place}
 use Rattle.trains.specs.declared.record.Place.the-variants.{Nowhere, At}
 use Rattle.trains.specs.declared.record.Train.{Train}
 use Rattle.store.specs.View.{View, findIn}
@@ -93,7 +91,9 @@ unfolding placed granted
 fit-placed loco slots ticket v row l n =
     fit-unless _ _ _ (λ left.
     fit-found (lowestRun (v .book) slots) _ _ (λ start e.
-    let f : Fits _ = fits-fresh loco (record { 0 = ticket }) (record { 0 = start }) slots l (omega (arith, leb-true ticket lastTicket left)) (omega (arith, run-in (v .book) slots start e)) n in
+    let small : ticket ≤ lastTicket = leb-true ticket lastTicket left in
+    let f : Fits _ =
+    fits-fresh loco (record { 0 = ticket }) (record { 0 = start }) slots l (omega arith) (omega (arith, run-in (v .book) slots start e)) n in
     record { one = f; other = f }))
 
 fit-requested : (loco : Loco) (bytes ticket : ℕ) (v : View) → TrainsFit (requested loco bytes ticket v)
@@ -198,4 +198,4 @@ fit (clear loco ticket other) t v s = fit-named _ _ (fit-cleared _ _ (named-fits
 pub fitting : (o : Op) (ticket : ℕ) (v : View) → Sound v → EffectFits (rule o ticket v .effect)
 fitting o ticket v sound =
     let f : TrainsFit (rule o ticket v) = fit o ticket v sound in
-    record { bounds = bounded o ticket v; one = f .one; other = f .other }
+    record { bounds = bounded o ticket v .effect; one = f .one; other = f .other }

@@ -8,4 +8,3 @@ pub mod SoundLaws
 pub mod ShareLaws
 pub mod FitLaws
 pub mod AfterLaws
-pub mod ZeroLaws

@@ -1,10 +1,11 @@
 -- How an operation ends: a session of another length, a refusal, or an effect taken in. Assumes nothing.
-use mathlib.Core.Path.{_≡_, sym, ap, _∙_, subst}
-use mathlib.Core.Bool.{Bool, true, false, cond}
+use mathlib.Core.Path.{_≡_, refl, sym, ap, _∙_, subst}
+use mathlib.Core.Bool.{true, false, cond}
 use mathlib.Core.List.{List}
 use Prim.Native.Nat.{ℕ, suc, _-_, _<_, _≤_}
+use native.Mathlib.Decide.{ℕ-discrete}
 use borrow.Author.Tests.{eq-eqb, ne-eqb, lt-ltb, le-ltb}
-use lib.Dec.{eqb, ltb}
+use lib.Dec.{ltb}
 use lib.ListN.{length}
 use Rattle.store.specs.Back.{steppedBy}
 use Rattle.store.specs.Layout.{sessionBytes}
@@ -17,7 +18,7 @@ use Rattle.session.specs.Answers.{ifSession, judged, taken, answerTo, by
 use Rattle.session.specs.Refusals.{wrongLength, tooFarBack}
 use Rattle.session.specs.Rules.{Op, counterAfter}
 use Rattle.session.specs.Ruling.{acceptedWith, refusedWith}
-use Rattle.session.proofs.BoundLaws.{bounded}
+use Rattle.session.proofs.BoundLaws.{Plain, bounded}
 
 pub is-session : {A : Type 0} (bs : List ℕ) (a b : A) → length bs ≡ sessionBytes → ifSession bs a b ≡ a
 unfolding ifSession
@@ -45,7 +46,7 @@ module _ (bs : List ℕ) (o : Op) where
   -- what may be committed
   pub op-bounded : (r : Ruling) → r ≡ judged bs o → InBounds (r .effect)
   unfolding judged
-  op-bounded r e = subst (λ (q : Ruling). InBounds (q .effect)) (sym e) (bounded o (suc (counterOf bs)) (viewOf bs))
+  op-bounded r e = subst (λ (q : Ruling). InBounds (q .effect)) (sym e) (bounded o (suc (counterOf bs)) (viewOf bs) .effect)
 
   -- a session: the ruling is the answer, and is taken in
   pub op-committed : length bs ≡ sessionBytes → (r : Ruling) (a : Answer) (counter : ℕ) (after : List ℕ) → r ≡ judged bs o → a ≡ r .answer
@@ -55,6 +56,15 @@ module _ (bs : List ℕ) (o : Op) where
     ea ∙ ap (λ (q : Ruling). q .answer) er ∙ sym (is-session bs _ _ h),
     eb ∙ ec ∙ ap (taken bs (counterAfter o (counterOf bs))) er ∙ sym (is-session bs _ _ h),
   )
+
+-- EVERY REFUSAL has zeros, whatever the operation and the lent bytes
+pub answer-plain : (bs : List ℕ) (o : Op) → Plain (answerTo bs o)
+unfolding answerTo judged
+answer-plain bs o = of (ℕ-discrete (length bs) sessionBytes)
+  where
+    of : Dec (length bs ≡ sessionBytes) → Plain (answerTo bs o)
+    of (yes e) = subst Plain (sym (is-session bs _ _ e)) (bounded o (suc (counterOf bs)) (viewOf bs) .plain)
+    of (no n) = subst Plain (sym (no-session bs _ _ n)) (λ h. refl)
 
 -- a step back too far, and one that is taken
 module _ (bs : List ℕ) (k : ℕ) (h : length bs ≡ sessionBytes) where

@@ -15,20 +15,22 @@ use Rattle.store.specs.View.{View, viewOf, counterOf}
 use Rattle.session.specs.declared.ruling.Ruling.{Ruling}
 use Rattle.session.specs.Answers.{judged, taken}
 use Rattle.session.specs.Registering.{granted, placed, requested}
-use Rattle.session.specs.Rules.{Op, request, grants, rule, counterAfter}
-use Rattle.session.specs.Ruling.{refused, when, withFound}
+use Rattle.session.specs.Rules.{request, grants, rule, counterAfter}
+use Rattle.session.specs.Ruling.{when, withFound}
 use Rattle.session.proofs.OperationLaws.{not-taken}
 
 -- an accepted ruling answers the ticket first, and it is a ticket
 abbrev pub Answers : ℕ → Ruling → Type 0
 Answers ticket r = r .answer .answer ≡ 0 → (r .answer .first ≡ ticket) × (ticket ≤ lastTicket)
 
-answers-when : (ticket : ℕ) (test : Bool) (ground : ℕ) (next : Ruling) → (test ≡ false → Answers ticket next) → Answers ticket (when test (suc ground) next)
+answers-when : (ticket : ℕ) (test : Bool) (ground : ℕ) (next : Ruling) → (test ≡ false → Answers ticket next)
+    → Answers ticket (when test (suc ground) next)
 unfolding when
 answers-when ticket true ground next h e = absurd (omega arith)
 answers-when ticket false ground next h e = h refl e
 
-answers-found : (ticket : ℕ) (f : Found) (ground : ℕ) (next : ℕ → Ruling) → ((k : ℕ) → Answers ticket (next k)) → Answers ticket (withFound f (suc ground) next)
+answers-found : (ticket : ℕ) (f : Found) (ground : ℕ) (next : ℕ → Ruling) → ((k : ℕ) → Answers ticket (next k))
+    → Answers ticket (withFound f (suc ground) next)
 unfolding withFound
 answers-found ticket Nothing ground next h e = absurd (omega arith)
 answers-found ticket (Index k) ground next h e = h k e

@@ -3,7 +3,7 @@
 use mathlib.Core.Path.{_≡_, refl, _∙_, subst}
 use mathlib.Core.List.{List, []}
 use mathlib.Core.Logic.{⊎-elim}
-use Prim.Native.Nat.{ℕ, _+_, _*_, _≤_, _<_}
+use Prim.Native.Nat.{ℕ}
 use native.Mathlib.Decide.{ℕ-discrete}
 use native.Mathlib.Omega.{arith}
 use lib.ListN.{length}
@@ -12,7 +12,7 @@ use Rattle.rows.specs.Register.{rowCount}
 use Rattle.rows.proofs.FitLaws.{Fits, fits-read}
 use Rattle.rows.proofs.RowLaws.{row-zeros}
 use Rattle.store.specs.Effect.{applied}
-use Rattle.store.specs.Layout.{bookAt, rowsAt, sessionBytes}
+use Rattle.store.specs.Layout.{bookAt}
 use Rattle.store.specs.View.{View, viewOf, rowIn}
 use Rattle.store.specs.declared.effect.Effect.{Effect}
 use Rattle.store.proofs.BookLaws.{length-book}
@@ -24,7 +24,6 @@ use Rattle.store.proofs.Stretches.{bytes-stretch}
 use Rattle.store.proofs.ViewLaws.{view-rows, view-fits, view-row-past}
 use Rattle.trains.specs.Kinds.{lastSlot}
 use Rattle.trains.specs.Record.{blankTrain}
-use Rattle.trains.specs.declared.record.Train.{Train}
 
 pub record Sound (v : View) : Type 0 where
   pub rows : length (v .rows) ≡ rowCount

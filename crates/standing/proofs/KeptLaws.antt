@@ -2,17 +2,17 @@
 use mathlib.Core.Path.{_≡_, refl, sym, ap, _∙_, subst, subst₂}
 use mathlib.Core.Bool.{Bool, true, false, cond}
 use mathlib.Core.List.{List, [], _∷_}
-use mathlib.Core.Logic.{⊎-elim, _⊎_, inl, inr}
+use mathlib.Core.Logic.{⊎-elim}
 use Prim.Native.Nat.{ℕ, suc, _-_, _≤_, _<_}
 use native.Mathlib.Decide.{ℕ-discrete}
 use native.Mathlib.Omega.{arith}
 use borrow.Author.Tests.{le-leb, lt-leb}
 use lib.Dec.{leb}
-use lib.ListN.{length, take, drop}
+use lib.ListN.{length, take}
 use Rattle.packets.proofs.FieldLaws.{lt-or-le}
-use Rattle.replay.specs.Rules.{Outcome, accept, refuse}
+use Rattle.replay.specs.Rules.{accept, refuse}
 use Rattle.replay.specs.Demand3.{Call, op, back, Answer as Told, took, wentBack, refused, State, depth, tooFarBack}
-use Rattle.replay.specs.Demand3.{opAnswer, backAnswer as backTold, ticketDue, judged as outcomeOf, Session}
+use Rattle.replay.specs.Demand3.{opAnswer, backAnswer as backTold, ticketDue, judged as outcomeOf}
 use Rattle.replay.specs.Machine.{counterAfter as counterDue, acted, undoAll, undone as wound, step}
 use Rattle.replay.specs.Kept.{Steps, Kept}
 use Rattle.replay.proofs.Rings.{length-readBack}
@@ -22,7 +22,7 @@ use Rattle.store.specs.Log.{Entry, saved, undone, entryIn, logOf}
 use Rattle.store.specs.View.{View, viewOf, counterOf, keptOf, headOf}
 use Rattle.store.proofs.BackLaws.{undoneAll, stepped-by-ready, stepped-by-view, stepped-by-counter, stepped-by-log}
 use Rattle.store.proofs.Frames.{Ready}
-use Rattle.session.specs.Answers.{judged, answerTo, bytesAfter, backAnswer, backAfter}
+use Rattle.session.specs.Answers.{judged, answerTo, bytesAfter}
 use Rattle.session.specs.Rules.{Op, grants, rule, counterAfter}
 use Rattle.session.specs.Ruling.{acceptedWith, refusedWith}
 use Rattle.session.specs.declared.ruling.Answer.{Answer}
@@ -30,7 +30,7 @@ use Rattle.session.specs.declared.ruling.Ruling.{Ruling}
 use Rattle.session.proofs.AfterLaws.{ticket-idle, grant-ticket, after-ready, after-view, after-counter, after-log, refused-bytes, refused-back}
 use Rattle.session.proofs.OperationLaws.{is-session, back-refused, back-taken}
 use Rattle.standing.specs.Told.{Reply, replyOf, ticketTold, told}
-use Rattle.standing.specs.Standing.{outcome, rules, Lent, answered, left, session}
+use Rattle.standing.specs.Standing.{outcome, rules, Lent, answered, bytesLeft, session}
 use Rattle.standing.proofs.RulesLaws.{outcome-accepted, outcome-refused}
 use Rattle.standing.proofs.ToldLaws.{told-took, told-back, told-refused, refuses}
 
@@ -44,6 +44,10 @@ lent-of r = record { size = r .size; bytes = r .bytes }
 abbrev state : List ℕ → State View Entry
 state bs = record { view = viewOf bs; counter = counterOf bs; log = logOf bs }
 
+-- the answer and the bytes of a call's contract are the machine's
+abbrev Does : List ℕ → Call Op → Type 0
+Does bs c = Steps session bs c (told c (answered bs c)) (bytesLeft bs c)
+
 -- ---- an operation
 
 -- the ticket that is due changes nothing but for a grant, which takes the one behind the counter
@@ -56,9 +60,6 @@ due-rule o c v = by (grants o) refl
     by false e = ticket-idle o 0 (suc c) v e
 
 module _ (bs : List ℕ) (lent : Lent bs) (o : Op) where
-  due : ℕ
-  due = ticketDue rules o (counterOf bs)
-
   outcome-is : outcomeOf rules o (counterOf bs) (viewOf bs) ≡ outcome (viewOf bs) (judged bs o)
   unfolding outcomeOf judged
   outcome-is = ap (outcome (viewOf bs)) (due-rule o (counterOf bs) (viewOf bs))
@@ -93,8 +94,8 @@ module _ (bs : List ℕ) (lent : Lent bs) (o : Op) where
         by true e = grant-ticket o (suc (counterOf bs)) (viewOf bs) e h .0
         by false e = refl
 
-    op-taken : Steps session bs (op o) (told (op o) (answered bs (op o))) (left bs (op o))
-    unfolding step answered left opAnswer
+    op-taken : Does bs (op o)
+    unfolding step answered bytesLeft opAnswer
     op-taken = record {
       ready = lent-of (after-ready bs (ready-of lent) o h);
       state = state-after ∙ ap (acted rules o (state bs)) (sym taken);
@@ -111,8 +112,8 @@ module _ (bs : List ℕ) (lent : Lent bs) (o : Op) where
     same : bytesAfter bs o ≡ bs
     same = refused-bytes bs o (λ z. h (ap (λ (a : Answer). a .answer) (sym answer-is) ∙ z))
 
-    op-refused : Steps session bs (op o) (told (op o) (answered bs (op o))) (left bs (op o))
-    unfolding step answered left opAnswer acted
+    op-refused : Does bs (op o)
+    unfolding step answered bytesLeft opAnswer acted
     op-refused = record {
       ready = subst Lent (sym same) lent;
       state = ap state same ∙ ap (acted rules o (state bs)) (sym not-taken);
@@ -134,8 +135,8 @@ log-kept : (bs : List ℕ) → length (logOf bs) ≡ keptOf bs
 log-kept bs = length-readBack depth (entryIn bs) (headOf bs) (keptOf bs)
 
 module _ (bs : List ℕ) (lent : Lent bs) (k : ℕ) where
-  back-far : keptOf bs < k → Steps session bs (back k) (told (back k) (answered bs (back k))) (left bs (back k))
-  unfolding step answered left backTold tooFarBack
+  back-far : keptOf bs < k → Does bs (back k)
+  unfolding step answered bytesLeft backTold tooFarBack
   back-far far =
       let b = back-refused bs k (lent .size) far in
       let t : leb k (length (logOf bs)) ≡ false = lt-leb k (length (logOf bs)) (rw (log-kept bs) far) in
@@ -155,8 +156,8 @@ module _ (bs : List ℕ) (lent : Lent bs) (k : ℕ) where
     log = stepped-by-log k bs (ready-of lent) near i;
   }
 
-  back-near : k ≤ keptOf bs → Steps session bs (back k) (told (back k) (answered bs (back k))) (left bs (back k))
-  unfolding step answered left backTold
+  back-near : k ≤ keptOf bs → Does bs (back k)
+  unfolding step answered bytesLeft backTold
   back-near near =
       let b = back-taken bs k (lent .size) near in
       let t : leb k (length (logOf bs)) ≡ true = le-leb k (length (logOf bs)) (rw (log-kept bs) near) in
@@ -171,16 +172,16 @@ module _ (bs : List ℕ) (lent : Lent bs) (k : ℕ) where
 
 -- ---- every call
 
-steps-at : (bs : List ℕ) (c : Call Op) → Lent bs → Steps session bs c (told c (answered bs c)) (left bs c)
+steps-at : (bs : List ℕ) (c : Call Op) → Lent bs → Does bs c
 steps-at bs (op o) lent = of (ℕ-discrete (judged bs o .answer .answer) 0)
   where
-    of : Dec (judged bs o .answer .answer ≡ 0) → Steps session bs (op o) (told (op o) (answered bs (op o))) (left bs (op o))
+    of : Dec (judged bs o .answer .answer ≡ 0) → Does bs (op o)
     of (yes h) = op-taken bs lent o h
     of (no h) = op-refused bs lent o h
 steps-at bs (back k) lent = ⊎-elim (back-far bs lent k) (back-near bs lent k) (lt-or-le (keptOf bs) k)
 
-refused-left : (bs : List ℕ) (c : Call Op) → (answered bs c .answer ≡ 0 → ⊥) → left bs c ≡ bs
-unfolding answered left
+refused-left : (bs : List ℕ) (c : Call Op) → (answered bs c .answer ≡ 0 → ⊥) → bytesLeft bs c ≡ bs
+unfolding answered bytesLeft
 refused-left bs (op o) h = refused-bytes bs o h
 refused-left bs (back k) h = refused-back bs k h
 

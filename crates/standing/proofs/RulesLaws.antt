@@ -1,11 +1,11 @@
 -- The session's rules are lawful: what demand 3 asks of them. Assumes nothing.
 use mathlib.Core.Path.{_≡_, refl, sym, ap, _∙_}
 use mathlib.Core.Bool.{Bool, true, false, cond}
-use Prim.Native.Nat.{ℕ, suc, _≤_, _<_}
+use Prim.Native.Nat.{ℕ, suc, _≤_}
 use native.Mathlib.Omega.{arith}
 use borrow.Author.Tests.{eqb-true, eq-eqb, ne-eqb}
 use lib.ListN.{length}
-use Rattle.replay.specs.Rules.{Rules, Lawful, Outcome, refuse, accept, lastTicket}
+use Rattle.replay.specs.Rules.{Lawful, refuse, accept, lastTicket}
 use Rattle.rows.specs.Register.{rowCount}
 use Rattle.store.specs.Effect.{applied}
 use Rattle.store.specs.Log.{saved, undone}
@@ -48,7 +48,7 @@ module _ (o : Op) (t : ℕ) (v w : View) (r : Reply) where
   undo-saved : length (v .rows) ≡ rowCount → outcome v (rule o t v) ≡ accept r w → undone (saved v (rule o t v .effect)) w ≡ v
   undo-saved s e =
       ap (undone (saved v (rule o t v .effect))) (sym (came v (rule o t v) r w e .view))
-      ∙ undo-save v (rule o t v .effect) (omega (arith, s, bounded o t v .one)) (omega (arith, s, bounded o t v .other))
+      ∙ undo-save v (rule o t v .effect) (omega (arith, s, bounded o t v .effect .one)) (omega (arith, s, bounded o t v .effect .other))
 
   ticket-fits : grants o ≡ true → outcome v (rule o t v) ≡ accept r w → t ≤ lastTicket
   unfolding lastTicket

@@ -8,7 +8,7 @@ use native.Mathlib.Omega.{arith}
 use borrow.Author.Tests.{eq-eqb, ne-eqb}
 use lib.ListN.{length}
 use Rattle.packets.proofs.FieldLaws.{lt-or-le}
-use Rattle.replay.specs.Demand3.{Call, op, back, Answer as Told, took, wentBack, refused}
+use Rattle.replay.specs.Demand3.{Call, op, back, took, wentBack, refused}
 use Rattle.store.specs.Layout.{sessionBytes}
 use Rattle.store.specs.View.{keptOf}
 use Rattle.session.specs.Answers.{answerTo, backAnswer}
@@ -16,9 +16,8 @@ use Rattle.session.specs.Refusals.{wrongLength, tooFarBack}
 use Rattle.session.specs.Rules.{Op}
 use Rattle.session.specs.Ruling.{acceptedWith, refusedWith}
 use Rattle.session.specs.declared.ruling.Answer.{Answer}
-use Rattle.session.proofs.OperationLaws.{no-session, back-refused, back-taken}
-use Rattle.session.proofs.ZeroLaws.{answer-plain}
-use Rattle.standing.specs.Told.{Reply, replyOf, ticketTold, told, answerBy}
+use Rattle.session.proofs.OperationLaws.{no-session, answer-plain, back-refused, back-taken}
+use Rattle.standing.specs.Told.{replyOf, ticketTold, told, answerBy}
 use Rattle.standing.specs.Standing.{answered}
 
 pub told-took : (o : Op) (a : Answer) → a .answer ≡ 0 → told (op o) a ≡ took (ticketTold o a) (replyOf a)

@@ -1,5 +1,5 @@
 -- The session as demand 3 sees it: its rules are the rules of session's contracts, and what a call did to the lent bytes is what the contracts of
--- the nine operations and of the step back name.
+-- the nine operations name (the step back is one of them).
 use mathlib.Core.Path.{_≡_}
 use mathlib.Core.Bool.{cond}
 use mathlib.Core.List.{List}
@@ -22,7 +22,8 @@ use Rattle.standing.specs.Told.{Reply, accepts, replyOf, told}
 unfoldable pub outcome : View → Ruling → Outcome View Reply
 outcome v r = cond (accepts (r .answer)) (accept (replyOf (r .answer)) (applied v (r .effect))) (refuse (r .answer .answer))
 
--- THE RULES: those of the session. A request takes the ticket behind the counter; the log keeps what the ruling's effect can change
+-- THE RULES: those of the session. A request takes the ticket behind the counter; the log keeps what the ruling's effect can change; and a view is
+-- sound that has the register's rows, as every view in lent bytes has
 abbrev pub rules : Rules
 rules =
     record {
@@ -49,9 +50,9 @@ answered bs (op o) = answerTo bs o
 answered bs (back k) = backAnswer bs k
 
 -- the bytes after it: those of the operation's contract
-unfoldable pub left : List ℕ → Call Op → List ℕ
-left bs (op o) = bytesAfter bs o
-left bs (back k) = backAfter bs k
+unfoldable pub bytesLeft : List ℕ → Call Op → List ℕ
+bytesLeft bs (op o) = bytesAfter bs o
+bytesLeft bs (back k) = backAfter bs k
 
 -- THE SESSION in lent bytes: the view, the counter and the entries kept that they stand for, and what the contracts say of each call
 abbrev pub session : Session rules
@@ -60,5 +61,5 @@ session =
       Bytes = List ℕ;
       stateIn = λ bs. record { view = viewOf bs; counter = counterOf bs; log = logOf bs };
       Ready = Lent;
-      Did = λ bs c a after. (a ≡ told c (answered bs c)) × (after ≡ left bs c);
+      Did = λ bs c a after. (a ≡ told c (answered bs c)) × (after ≡ bytesLeft bs c);
     }

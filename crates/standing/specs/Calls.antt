@@ -1,0 +1,17 @@
+-- Calls made one after another on lent bytes, the first call first: what they answer, and the bytes after them.
+use mathlib.Core.List.{List, [], _∷_}
+use Prim.Native.Nat.{ℕ}
+use Rattle.replay.specs.Demand3.{Call, History}
+use Rattle.session.specs.Rules.{Op}
+use Rattle.standing.specs.Told.{told}
+use Rattle.standing.specs.Standing.{rules, answered, bytesLeft}
+
+-- the calls with their answers
+unfoldable pub history : List ℕ → List (Call Op) → History rules
+history bs [] = []
+history bs (c ∷ cs) = record { call = c; answer = told c (answered bs c) } ∷ history (bytesLeft bs c) cs
+
+-- the bytes after all of them
+unfoldable pub bytesAfterAll : List ℕ → List (Call Op) → List ℕ
+bytesAfterAll bs [] = bs
+bytesAfterAll bs (c ∷ cs) = bytesAfterAll (bytesLeft bs c) cs
