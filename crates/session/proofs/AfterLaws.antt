@@ -19,12 +19,13 @@ use Rattle.store.specs.View.{View, viewOf, counterOf, keptOf}
 use Rattle.store.specs.declared.effect.Effect.{Effect}
 use Rattle.store.proofs.Frames.{Ready}
 use Rattle.store.proofs.SettledLaws.{EffectFits, settled-ready, settled-view, settled-counter, settled-kept, settled-log}
-use Rattle.session.specs.declared.ruling.Answer.{Answer}
-use Rattle.session.specs.Answers.{judged, answerTo, bytesAfter, backAnswer, backAfter}
-use Rattle.session.specs.Rules.{Op, request, release, flags, position, authority, danger, sos, clear, grants, rule, counterAfter}
+use Rattle.rulings.specs.declared.ruling.Answer.{Answer}
+use Rattle.rules.specs.Judged.{judged}
+use Rattle.session.specs.Answers.{answerTo, bytesAfter, backAnswer, backAfter}
+use Rattle.rules.specs.Rules.{Op, request, release, flags, position, authority, danger, sos, clear, grants, rule, counterAfter}
 use Rattle.session.proofs.FitLaws.{fitting}
 use Rattle.session.proofs.OperationLaws.{is-session, no-session, taken-in, not-taken, back-refused, back-taken}
-use Rattle.session.proofs.RequestLaws.{Answers, request-ticket}
+use Rattle.rules.proofs.RequestLaws.{Answers, request-ticket}
 use Rattle.session.proofs.SoundLaws.{Sound, sound-bytes, sound-applied}
 
 -- ---- the rules

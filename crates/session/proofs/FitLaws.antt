@@ -26,18 +26,20 @@ use Rattle.trains.specs.declared.record.Place.the-variants.{Nowhere, At}
 use Rattle.trains.specs.declared.record.Train.{Train}
 use Rattle.store.specs.View.{View, findIn}
 use Rattle.store.proofs.SettledLaws.{EffectFits}
-use Rattle.session.specs.declared.named.Named.{Named}
-use Rattle.session.specs.declared.ruling.Ruling.{Ruling}
-use Rattle.session.specs.Named.{inRow, namedIn, nobody, onNamed}
-use Rattle.session.specs.Raising.{trainClass, shared, measured, raised, sosRaised}
-use Rattle.session.specs.Registering.{granted, placed, requested, released}
-use Rattle.session.specs.Rules.{Op, request, release, flags, position, authority, danger, sos, clear, rule}
-use Rattle.session.specs.Ruling.{refused, when, withFound}
-use Rattle.session.specs.Running.{changedTo, moved, authorised, signalled, cleared, stepTaken, stepped, flagged}
-use Rattle.session.specs.Slots.{bytesPerSlot, isRequest, slotsFor, lowestRun}
-use Rattle.session.proofs.BoundLaws.{bounded}
+use Rattle.rules.specs.declared.named.Named.{Named}
+use Rattle.rulings.specs.declared.ruling.Ruling.{Ruling}
+use Rattle.rules.specs.Named.{inRow, namedIn, nobody, onNamed}
+use Rattle.rulings.specs.Raising.{trainClass, shared, measured, raised}
+use Rattle.rules.specs.Named.{sosRaised}
+use Rattle.rulings.specs.Registering.{granted, released}
+use Rattle.rules.specs.Requesting.{placed, requested}
+use Rattle.rules.specs.Rules.{Op, request, release, flags, position, authority, danger, sos, clear, rule}
+use Rattle.rulings.specs.Ruling.{refused, when, withFound}
+use Rattle.rulings.specs.Running.{changedTo, moved, authorised, signalled, cleared, stepTaken, stepped, flagged}
+use Rattle.rules.specs.Slots.{bytesPerSlot, isRequest, slotsFor, lowestRun}
+use Rattle.rules.proofs.BoundLaws.{bounded}
 use Rattle.session.proofs.ShareLaws.{share-of-l1-fits, share-of-l2-fits, share-taken-fits}
-use Rattle.session.proofs.SlotLaws.{run-in, request-small, slots-few}
+use Rattle.rules.proofs.SlotLaws.{run-in, request-small, slots-few}
 use Rattle.session.proofs.SoundLaws.{Sound, fits-blank}
 
 -- a ruling whose trains fit their rows

@@ -1,9 +1,5 @@
-pub mod RulingLaws
-pub mod SlotLaws
-pub mod NamedLaws
-pub mod BoundLaws
 pub mod OperationLaws
-pub mod RequestLaws
+pub mod CounterLaws
 pub mod SoundLaws
 pub mod ShareLaws
 pub mod FitLaws

@@ -12,13 +12,14 @@ use Rattle.store.specs.Layout.{sessionBytes}
 use Rattle.store.specs.Settled.{settled}
 use Rattle.store.specs.View.{viewOf, counterOf, keptOf}
 use Rattle.store.specs.Effect.{InBounds}
-use Rattle.session.specs.declared.ruling.Answer.{Answer}
-use Rattle.session.specs.declared.ruling.Ruling.{Ruling}
-use Rattle.session.specs.Answers.{ifSession, judged, taken, answerTo, bytesAfter, backAnswer, backAfter}
-use Rattle.session.specs.Refusals.{wrongLength, tooFarBack}
-use Rattle.session.specs.Rules.{Op, counterAfter}
-use Rattle.session.specs.Ruling.{acceptedWith, refusedWith}
-use Rattle.session.proofs.BoundLaws.{Plain, bounded}
+use Rattle.rulings.specs.declared.ruling.Answer.{Answer}
+use Rattle.rulings.specs.declared.ruling.Ruling.{Ruling}
+use Rattle.rules.specs.Judged.{judged}
+use Rattle.session.specs.Answers.{ifSession, taken, answerTo, bytesAfter, backAnswer, backAfter}
+use Rattle.rulings.specs.Refusals.{wrongLength, tooFarBack}
+use Rattle.rules.specs.Rules.{Op, counterAfter}
+use Rattle.rulings.specs.Ruling.{acceptedWith, refusedWith}
+use Rattle.rules.proofs.BoundLaws.{Plain, bounded}
 
 pub is-session : {A : Type 0} (bs : List ℕ) (a b : A) → length bs ≡ sessionBytes → ifSession bs a b ≡ a
 unfolding ifSession

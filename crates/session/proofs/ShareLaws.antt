@@ -12,7 +12,7 @@ use Rattle.trains.specs.declared.record.Limit.the-variants.{Bare}
 use Rattle.trains.specs.declared.record.Position.{Position}
 use Rattle.trains.specs.declared.record.Position.the-variants.{Unknown, Between}
 use Rattle.trains.specs.declared.record.Train.{Train}
-use Rattle.session.specs.Raising.{shareTaken}
+use Rattle.rulings.specs.Raising.{shareTaken}
 
 -- a share whose limit fits its bytes
 unfoldable pub ShareFits : Share → Type 0

@@ -1,7 +1,7 @@
 -- THE CONTRACTS' DEFINITIONS: what a call answers, and the lent bytes after it, for all bytes. A refusal leaves them as they were.
 use mathlib.Core.Bool.{cond}
 use mathlib.Core.List.{List}
-use Prim.Native.Nat.{ℕ, suc, _-_}
+use Prim.Native.Nat.{ℕ, _-_}
 use lib.Dec.{eqb, ltb}
 use lib.ListN.{length}
 use Rattle.trains.specs.declared.kinds.Loco.{Loco}
@@ -10,22 +10,17 @@ use Rattle.store.specs.Back.{steppedBy}
 use Rattle.store.specs.Emptied.{emptied}
 use Rattle.store.specs.Layout.{sessionBytes}
 use Rattle.store.specs.Settled.{settled}
-use Rattle.store.specs.View.{viewOf, counterOf, keptOf}
-use Rattle.session.specs.declared.ruling.Answer.{Answer}
-use Rattle.session.specs.declared.ruling.Ruling.{Ruling}
-use Rattle.session.specs.Refusals.{wrongLength, tooFarBack}
-use Rattle.session.specs.Ruling.{acceptedWith, refusedWith, isAccepted}
-use Rattle.session.specs.Rules.{Op, rule, counterAfter}
-use Rattle.session.specs.Named.{namedIn, onNamed}
-use Rattle.session.specs.Running.{changedTo}
+use Rattle.store.specs.View.{counterOf, keptOf}
+use Rattle.rulings.specs.declared.ruling.Answer.{Answer}
+use Rattle.rulings.specs.declared.ruling.Ruling.{Ruling}
+use Rattle.rulings.specs.Refusals.{wrongLength, tooFarBack}
+use Rattle.rulings.specs.Ruling.{acceptedWith, refusedWith, isAccepted}
+use Rattle.rules.specs.Rules.{Op, counterAfter}
+use Rattle.rules.specs.Judged.{judged, endJudged}
 
 -- a where the lent bytes are as long as a session, and b where they are not
 unfoldable pub ifSession : {A : Type 0} → List ℕ → A → A → A
 ifSession bs a b = cond (eqb (length bs) sessionBytes) a b
-
--- what the rules say of an operation on the lent bytes; a request would take the ticket behind the counter
-unfoldable pub judged : List ℕ → Op → Ruling
-judged bs o = rule o (suc (counterOf bs)) (viewOf bs)
 
 -- the bytes with a ruling taken in
 unfoldable pub taken : List ℕ → ℕ → Ruling → List ℕ
@@ -50,7 +45,7 @@ backAfter bs k = ifSession bs (cond (ltb (keptOf bs) k) bs (steppedBy k bs)) bs
 
 -- the effective end of a named train
 unfoldable pub endAnswerTo : List ℕ → Loco → Ticket → Answer
-endAnswerTo bs loco ticket = ifSession bs (onNamed (namedIn loco ticket (viewOf bs)) changedTo .answer) (refusedWith wrongLength)
+endAnswerTo bs loco ticket = ifSession bs (endJudged bs loco ticket) (refusedWith wrongLength)
 
 -- the answer to making an empty session
 unfoldable pub startAnswer : List ℕ → Answer

@@ -1,9 +1,1 @@
-pub mod Refusals
-pub mod Ruling
-pub mod Slots
-pub mod Named
-pub mod Registering
-pub mod Running
-pub mod Raising
-pub mod Rules
 pub mod Answers

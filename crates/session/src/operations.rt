@@ -1,8 +1,8 @@
 // THE OPERATIONS on a lent session. Each judges first and then takes the effect in; a refusal changes no byte.
-use crate::judging;
-use crate::refusals;
-use crate::ruling::Answer;
-use crate::ruling::Ruling;
+use rules::judging;
+use rulings::refusals;
+use rulings::ruling::Answer;
+use rulings::ruling::Ruling;
 use store::back;
 use store::emptied;
 use store::layout;
@@ -14,7 +14,7 @@ ghost use mathlib.Core.Path.{_≡_};
 ghost use lib.ListN.{length};
 ghost use Rattle.store.specs.Effect.{InBounds};
 ghost use Rattle.store.specs.Layout.{sessionBytes};
-ghost use Rattle.session.specs.Rules.{Op};
+ghost use Rattle.rules.specs.Rules.{Op};
 ghost use Rattle.session.specs.Answers.{taken, answerTo, bytesAfter, backAnswer, backAfter, startAnswer, startAfter};
 
 // The one way in which an accepted operation changes a session.

@@ -1,8 +1,7 @@
 // Questions that only read a session: for displays and tests.
-use crate::named;
-use crate::refusals;
-use crate::ruling::Answer;
-use crate::running;
+use rules::judging;
+use rulings::refusals;
+use rulings::ruling::Answer;
 use store::layout;
 use store::view;
 use trains::kinds::Loco;
@@ -27,12 +26,7 @@ pub fn end(session: &[u8], loco: Loco, ticket: Ticket) -> Answer
     if session.len() != layout::SESSION {
         return Answer::refused(refusals::WRONG_LENGTH);
     }
-    let found = named::find(session, loco, ticket);
-    let train = found.train;
-    if found.answer != 0 {
-        return Answer::refused(found.answer);
-    }
-    running::change_to(found.row, train).answer
+    judging::end(session, loco, ticket)
 }
 
 // The ticket counter.

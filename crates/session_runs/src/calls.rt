@@ -3,9 +3,9 @@
 use crate::lines;
 use crate::parts;
 use packets::numbers;
+use rulings::ruling::Answer;
 use session::operations;
 use session::questions;
-use session::ruling::Answer;
 use trains::kinds::Loco;
 use trains::kinds::Ticket;
 ghost use Prim.Native.Nat.{_<_};

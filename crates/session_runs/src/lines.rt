@@ -1,7 +1,7 @@
 // What is printed: a line's numbers, an answer, a train, the slots. A dash stands for what is missing.
 use libc::STDOUT_FILENO;
+use rulings::ruling::Answer;
 use session::questions;
-use session::ruling::Answer;
 use trains::kinds::Slot;
 use trains::orders::ORDERS;
 use trains::record::Limit;

@@ -22,11 +22,12 @@ use Rattle.store.specs.Log.{Entry, saved, undone, entryIn, logOf}
 use Rattle.store.specs.View.{View, viewOf, counterOf, keptOf, headOf}
 use Rattle.store.proofs.BackLaws.{undoneAll, stepped-by-ready, stepped-by-view, stepped-by-counter, stepped-by-log}
 use Rattle.store.proofs.Frames.{Ready}
-use Rattle.session.specs.Answers.{judged, answerTo, bytesAfter}
-use Rattle.session.specs.Rules.{Op, grants, rule, counterAfter}
-use Rattle.session.specs.Ruling.{acceptedWith, refusedWith}
-use Rattle.session.specs.declared.ruling.Answer.{Answer}
-use Rattle.session.specs.declared.ruling.Ruling.{Ruling}
+use Rattle.rules.specs.Judged.{judged}
+use Rattle.session.specs.Answers.{answerTo, bytesAfter}
+use Rattle.rules.specs.Rules.{Op, grants, rule, counterAfter}
+use Rattle.rulings.specs.Ruling.{acceptedWith, refusedWith}
+use Rattle.rulings.specs.declared.ruling.Answer.{Answer}
+use Rattle.rulings.specs.declared.ruling.Ruling.{Ruling}
 use Rattle.session.proofs.AfterLaws.{ticket-idle, grant-ticket, after-ready, after-view, after-counter, after-log, refused-bytes, refused-back}
 use Rattle.session.proofs.OperationLaws.{is-session, back-refused, back-taken}
 use Rattle.standing.specs.Told.{Reply, replyOf, ticketTold, told}

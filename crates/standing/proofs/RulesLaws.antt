@@ -11,10 +11,10 @@ use Rattle.store.specs.Effect.{applied}
 use Rattle.store.specs.Log.{saved, undone}
 use Rattle.store.specs.View.{View}
 use Rattle.store.proofs.EffectLaws.{applied-rows, undo-save}
-use Rattle.session.specs.Rules.{Op, grants, rule}
-use Rattle.session.specs.declared.ruling.Ruling.{Ruling}
+use Rattle.rules.specs.Rules.{Op, grants, rule}
+use Rattle.rulings.specs.declared.ruling.Ruling.{Ruling}
 use Rattle.session.proofs.AfterLaws.{grant-ticket}
-use Rattle.session.proofs.BoundLaws.{bounded}
+use Rattle.rules.proofs.BoundLaws.{bounded}
 use Rattle.standing.specs.Told.{Reply, accepts, replyOf}
 use Rattle.standing.specs.Standing.{outcome, rules}
 

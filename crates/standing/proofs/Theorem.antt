@@ -17,7 +17,7 @@ use Rattle.store.specs.View.{counterOf}
 use Rattle.store.proofs.EmptyLaws.{emptied-ready, emptied-counter, emptied-log}
 use Rattle.store.proofs.ViewLaws.{view-rows}
 use Rattle.session.specs.Answers.{startAfter}
-use Rattle.session.specs.Rules.{Op}
+use Rattle.rules.specs.Rules.{Op}
 use Rattle.session.proofs.OperationLaws.{is-session}
 use Rattle.standing.specs.Standing.{rules, bytesLeft, session}
 use Rattle.standing.specs.Calls.{history, bytesAfterAll}

@@ -12,10 +12,10 @@ use Rattle.replay.specs.Demand3.{Call, op, back, took, wentBack, refused}
 use Rattle.store.specs.Layout.{sessionBytes}
 use Rattle.store.specs.View.{keptOf}
 use Rattle.session.specs.Answers.{answerTo, backAnswer}
-use Rattle.session.specs.Refusals.{wrongLength, tooFarBack}
-use Rattle.session.specs.Rules.{Op}
-use Rattle.session.specs.Ruling.{acceptedWith, refusedWith}
-use Rattle.session.specs.declared.ruling.Answer.{Answer}
+use Rattle.rulings.specs.Refusals.{wrongLength, tooFarBack}
+use Rattle.rules.specs.Rules.{Op}
+use Rattle.rulings.specs.Ruling.{acceptedWith, refusedWith}
+use Rattle.rulings.specs.declared.ruling.Answer.{Answer}
 use Rattle.session.proofs.OperationLaws.{no-session, answer-plain, back-refused, back-taken}
 use Rattle.standing.specs.Told.{replyOf, ticketTold, told, answerBy}
 use Rattle.standing.specs.Standing.{answered}

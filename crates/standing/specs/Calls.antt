@@ -2,7 +2,7 @@
 use mathlib.Core.List.{List, [], _∷_}
 use Prim.Native.Nat.{ℕ}
 use Rattle.replay.specs.Demand3.{Call, History}
-use Rattle.session.specs.Rules.{Op}
+use Rattle.rules.specs.Rules.{Op}
 use Rattle.standing.specs.Told.{told}
 use Rattle.standing.specs.Standing.{rules, answered, bytesLeft}
 

@@ -13,9 +13,9 @@ use Rattle.store.specs.Layout.{sessionBytes}
 use Rattle.store.specs.Log.{Entry, saved, undone, logOf}
 use Rattle.store.specs.View.{View, viewOf, counterOf}
 use Rattle.session.specs.Answers.{answerTo, bytesAfter, backAnswer, backAfter}
-use Rattle.session.specs.Rules.{Op, grants, rule}
-use Rattle.session.specs.declared.ruling.Answer.{Answer}
-use Rattle.session.specs.declared.ruling.Ruling.{Ruling}
+use Rattle.rules.specs.Rules.{Op, grants, rule}
+use Rattle.rulings.specs.declared.ruling.Answer.{Answer}
+use Rattle.rulings.specs.declared.ruling.Ruling.{Ruling}
 use Rattle.standing.specs.Told.{Reply, accepts, replyOf, told}
 
 -- what a ruling comes to on a view

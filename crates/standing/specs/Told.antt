@@ -4,9 +4,9 @@ use mathlib.Core.Bool.{Bool, cond}
 use Prim.Native.Nat.{ℕ}
 use lib.Dec.{eqb}
 use Rattle.replay.specs.Demand3.{Call, op, back, Answer as Told, took, wentBack, refused}
-use Rattle.session.specs.Rules.{Op, grants}
-use Rattle.session.specs.Ruling.{acceptedWith, refusedWith}
-use Rattle.session.specs.declared.ruling.Answer.{Answer}
+use Rattle.rules.specs.Rules.{Op, grants}
+use Rattle.rulings.specs.Ruling.{acceptedWith, refusedWith}
+use Rattle.rulings.specs.declared.ruling.Answer.{Answer}
 
 -- the three numbers of an answer
 pub record Reply : Type 0 where

@@ -1,5 +1,5 @@
 // What an answer tells of its call.
-use session::ruling::Answer;
+use rulings::ruling::Answer;
 ghost use mathlib.Core.Path.{_≡_};
 ghost use Rattle.standing.specs.Told.{accepts};
 

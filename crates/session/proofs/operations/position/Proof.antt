@@ -2,7 +2,7 @@
 use mathlib.Core.Path.{_≡_, sym, ap, _∙_}
 use Prim.Native.Nat.{ℕ}
 use Rattle.session.specs.Answers.{taken}
-use Rattle.session.specs.Rules.{Op, grants, counterAfter}
+use Rattle.rules.specs.Rules.{Op, grants, counterAfter}
 use Rattle.session.proofs.OperationLaws.{op-wrong-length, op-bounded, op-committed}
 use borrow.Author.Needs.{needs}
 use Rattle.session.proofs.operations.position.Statement.{statement}

@@ -2,9 +2,9 @@
 use mathlib.Core.Path.{_≡_, sym, ap, _∙_}
 use Prim.Native.Nat.{ℕ}
 use Rattle.session.specs.Answers.{taken}
-use Rattle.session.specs.Rules.{Op, grants, counterAfter}
+use Rattle.rules.specs.Rules.{Op, grants, counterAfter}
 use Rattle.session.proofs.OperationLaws.{op-wrong-length, op-bounded, op-committed}
-use Rattle.session.proofs.RequestLaws.{request-counter}
+use Rattle.session.proofs.CounterLaws.{request-counter}
 use borrow.Author.Needs.{needs}
 use Rattle.session.proofs.operations.request.Statement.{statement}
 use Rattle.session.proofs.operations.request.Tie as tie

@@ -6,7 +6,7 @@ use Rattle.session.proofs.OperationLaws.{back-refused, back-taken}
 use native.Mathlib.Omega.{arith}
 use Prim.Native.Nat.{ℕ, _-_}
 use Rattle.replay.specs.Demand3.{depth}
-use Rattle.session.specs.Ruling.{acceptedWith}
+use Rattle.rulings.specs.Ruling.{acceptedWith}
 use Rattle.session.specs.Answers.{backAnswer, backAfter}
 use borrow.Author.Needs.{needs}
 use Rattle.session.proofs.operations.step_back.Statement.{statement}

@@ -1,0 +1,4 @@
+pub mod SlotLaws
+pub mod NamedLaws
+pub mod BoundLaws
+pub mod RequestLaws

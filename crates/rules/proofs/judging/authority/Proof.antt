@@ -1,0 +1,24 @@
+-- `rules::judging::authority` meets its contract. Assumes nothing.
+use mathlib.Core.Path.{_≡_, sym, ap, _∙_}
+use Rattle.rules.specs.Judged.{judged}
+use Rattle.rules.specs.Named.{onNamed}
+use Rattle.rules.specs.Rules.{rule}
+use Rattle.rules.proofs.NamedLaws.{nobody-named, somebody-named}
+use Rattle.rulings.specs.Running.{authorised}
+use borrow.Author.Needs.{needs}
+use Rattle.rules.proofs.judging.authority.Statement.{statement}
+use Rattle.rules.proofs.judging.authority.Tie as tie
+
+returns : tie.Need-returns
+unfolding judged rule
+returns c = c .refused .ensures ∙ nobody-named _ _ (authorised (c .before .before .before .before .before .before .args .end)) (c .before .before .before .before .find .ensures) (c .before .if1 .taken)
+
+returns-2 : tie.Need-returns-2
+unfolding judged rule
+returns-2 c = c .authorise .ensures ∙ somebody-named _ _ (authorised (c .before .before .before .before .before .before .args .end)) (c .before .before .before .before .find .ensures) (c .before .if1 .left)
+
+pub authority-spec : {M : Type 1} → statement M
+authority-spec =
+    tie.close
+    (tie.spec
+    (λ c κs. search needs) (λ c κs. search needs) returns (λ c κs. search needs) returns-2)

@@ -1,0 +1,5 @@
+pub mod Slots
+pub mod Named
+pub mod Requesting
+pub mod Rules
+pub mod Judged

@@ -1,0 +1,5 @@
+// The rules: what each operation answers, and what it does to the trains and the slots of a session that is only read.
+pub mod judging;
+pub mod named;
+mod requesting;
+mod slots;

@@ -1,0 +1,22 @@
+-- `rulings::running::move_to` meets its contract. Assumes nothing.
+use mathlib.Core.Path.{_≡_, sym, ap, _∙_}
+use Rattle.rulings.proofs.RulingLaws.{ruling-is, stops, goes-on, stops-unless, goes-on-unless}
+use Rattle.rulings.specs.Running.{changedTo, moved}
+use borrow.Author.Needs.{needs}
+use Rattle.rulings.proofs.running.move_to.Statement.{statement}
+use Rattle.rulings.proofs.running.move_to.Tie as tie
+
+returns : tie.Need-returns
+unfolding moved
+returns c = c .refused .ensures ∙ stops-unless _ _ _ _ (c .before .before .is-position .ensures) (c .before .if1 .taken)
+
+returns-2 : tie.Need-returns-2
+unfolding moved
+returns-2 c = c .change-to .ensures ∙ ap (changedTo (c .before .before .before .before .args .row)) (c .before .with-position .ensures)
+    ∙ goes-on-unless _ _ _ _ (c .before .before .before .is-position .ensures) (c .before .before .if1 .left)
+
+pub move-to-spec : {M : Type 1} → statement M
+move-to-spec =
+    tie.close
+    (tie.spec
+    (λ c κs. search needs) (λ c κs. search needs) returns (λ c κs. search needs) (λ c κs. search needs) returns-2)
