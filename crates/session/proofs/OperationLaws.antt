@@ -39,7 +39,7 @@ unfolding taken
 not-taken bs counter r e = sym (λ i. cond (ne-eqb (r .answer .answer) 0 e i) (settled bs counter (r .effect)) bs)
 
 module _ (bs : List ℕ) (o : Op) where
-  -- another length
+  -- bytes of another length: 34, and all of them stay
   pub op-wrong-length : (length bs ≡ sessionBytes → ⊥) → (refusedWith wrongLength ≡ answerTo bs o) × (bs ≡ bytesAfter bs o)
   unfolding answerTo bytesAfter
   op-wrong-length h = (sym (no-session bs _ _ h), sym (no-session bs _ _ h))
@@ -49,13 +49,14 @@ module _ (bs : List ℕ) (o : Op) where
   unfolding judged
   op-bounded r e = subst (λ (q : Ruling). InBounds (q .effect)) (sym e) (bounded o (suc (counterOf bs)) (viewOf bs) .effect)
 
-  -- a session: the ruling is the answer, and is taken in
-  pub op-committed : length bs ≡ sessionBytes → (r : Ruling) (a : Answer) (counter : ℕ) (after : List ℕ) → r ≡ judged bs o → a ≡ r .answer
-      → after ≡ taken bs counter r → taken bs counter r ≡ taken bs (counterAfter o (counterOf bs)) r → (a ≡ answerTo bs o) × (after ≡ bytesAfter bs o)
+  -- the ruling is the answer and is taken in, where the bytes are a session
+  pub op-committed : (r : Ruling) (a : Answer) (counter : ℕ) (after : List ℕ) → r ≡ judged bs o → a ≡ ifSession bs (r .answer) (refusedWith wrongLength)
+      → after ≡ ifSession bs (taken bs counter r) bs → taken bs counter r ≡ taken bs (counterAfter o (counterOf bs)) r
+      → (a ≡ answerTo bs o) × (after ≡ bytesAfter bs o)
   unfolding answerTo bytesAfter
-  op-committed h r a counter after er ea eb ec = (
-    ea ∙ ap (λ (q : Ruling). q .answer) er ∙ sym (is-session bs _ _ h),
-    eb ∙ ec ∙ ap (taken bs (counterAfter o (counterOf bs))) er ∙ sym (is-session bs _ _ h),
+  op-committed r a counter after er ea eb ec = (
+    ea ∙ ap (λ (q : Ruling). ifSession bs (q .answer) (refusedWith wrongLength)) er,
+    eb ∙ ap (λ (x : List ℕ). ifSession bs x bs) (ec ∙ ap (taken bs (counterAfter o (counterOf bs))) er),
   )
 
 -- EVERY REFUSAL has zeros, whatever the operation and the lent bytes

@@ -11,24 +11,38 @@ use store::view;
 use trains::kinds::Loco;
 use trains::kinds::Ticket;
 ghost use mathlib.Core.Path.{_≡_};
-ghost use lib.ListN.{length};
 ghost use Rattle.store.specs.Effect.{InBounds};
-ghost use Rattle.store.specs.Layout.{sessionBytes};
+ghost use Rattle.store.specs.View.{counterOf};
+ghost use Rattle.rulings.specs.Refusals.{wrongLength};
+ghost use Rattle.rulings.specs.Ruling.{refusedWith};
 ghost use Rattle.rules.specs.Rules.{Op};
-ghost use Rattle.session.specs.Answers.{taken, answerTo, bytesAfter, backAnswer, backAfter, startAnswer, startAfter};
+ghost use Rattle.session.specs.Answers.{ifSession, taken, answerTo, bytesAfter, backAnswer, backAfter, startAnswer, startAfter};
 
-// The one way in which an accepted operation changes a session.
-fn commit(s: &mut [u8], counter: u32, ruling: Ruling) -> Answer
-    requires { ⌜ (length (now s) ≡ sessionBytes) × InBounds (ruling .effect) ⌝ }
-    ensures { λ r. ⌜ r ≡ ruling .answer ⌝ }
-    ensures { λ _. ⌜ now (s .exit) ≡ taken (now (s .entry)) counter ruling ⌝ }
+// The one way in which an operation ends: bytes that are no session are refused, and a ruling that accepts is taken in.
+fn commit(session: &mut [u8], counter: u32, ruling: Ruling) -> Answer
+    requires { ⌜ InBounds (ruling .effect) ⌝ }
+    ensures { λ r. ⌜ r ≡ ifSession (now (session .entry)) (ruling .answer) (refusedWith wrongLength) ⌝ }
+    ensures { λ _. ⌜ now (session .exit) ≡ ifSession (now (session .entry)) (taken (now (session .entry)) counter ruling) (now (session .entry)) ⌝ }
 {
+    if session.len() != layout::SESSION {
+        return Answer::refused(refusals::WRONG_LENGTH);
+    }
     let answer = ruling.answer;
     let effect = ruling.effect;
     if answer.answer == 0 {
-        settled::settle(s, counter, effect);
+        settled::settle(session, counter, effect);
     }
     answer
+}
+
+// The end of an operation that takes no ticket: the counter stays.
+fn commit_as_counted(session: &mut [u8], ruling: Ruling) -> Answer
+    requires { ⌜ InBounds (ruling .effect) ⌝ }
+    ensures { λ r. ⌜ r ≡ ifSession (now (session .entry)) (ruling .answer) (refusedWith wrongLength) ⌝ }
+    ensures { λ _. ⌜ now (session .exit) ≡ ifSession (now (session .entry)) (taken (now (session .entry)) (counterOf (now (session .entry))) ruling) (now (session .entry)) ⌝ }
+{
+    let counter = view::counter(session);
+    commit(session, counter, ruling)
 }
 
 // Makes the empty session.
@@ -48,9 +62,6 @@ pub fn request(session: &mut [u8], loco: Loco, bytes: u32) -> Answer
     ensures { λ r. ⌜ r ≡ answerTo (now (session .entry)) (Op.request loco bytes) ⌝ }
     ensures { λ _. ⌜ now (session .exit) ≡ bytesAfter (now (session .entry)) (Op.request loco bytes) ⌝ }
 {
-    if session.len() != layout::SESSION {
-        return Answer::refused(refusals::WRONG_LENGTH);
-    }
     let ruling = judging::request(session, loco, bytes);
     let ticket = ruling.answer.first;
     commit(session, ticket, ruling)
@@ -60,72 +71,48 @@ pub fn release(session: &mut [u8], loco: Loco, ticket: Ticket) -> Answer
     ensures { λ r. ⌜ r ≡ answerTo (now (session .entry)) (Op.release loco ticket) ⌝ }
     ensures { λ _. ⌜ now (session .exit) ≡ bytesAfter (now (session .entry)) (Op.release loco ticket) ⌝ }
 {
-    if session.len() != layout::SESSION {
-        return Answer::refused(refusals::WRONG_LENGTH);
-    }
     let ruling = judging::release(session, loco, ticket);
-    let counter = view::counter(session);
-    commit(session, counter, ruling)
+    commit_as_counted(session, ruling)
 }
 
 pub fn flags(session: &mut [u8], loco: Loco, ticket: Ticket, bits: &[u8]) -> Answer
     ensures { λ r. ⌜ r ≡ answerTo (now (session .entry)) (Op.flags loco ticket (now (bits .entry))) ⌝ }
     ensures { λ _. ⌜ now (session .exit) ≡ bytesAfter (now (session .entry)) (Op.flags loco ticket (now (bits .entry))) ⌝ }
 {
-    if session.len() != layout::SESSION {
-        return Answer::refused(refusals::WRONG_LENGTH);
-    }
     let ruling = judging::flags(session, loco, ticket, bits);
-    let counter = view::counter(session);
-    commit(session, counter, ruling)
+    commit_as_counted(session, ruling)
 }
 
 pub fn position(session: &mut [u8], loco: Loco, ticket: Ticket, front: u32, rear: u32) -> Answer
     ensures { λ r. ⌜ r ≡ answerTo (now (session .entry)) (Op.position loco ticket front rear) ⌝ }
     ensures { λ _. ⌜ now (session .exit) ≡ bytesAfter (now (session .entry)) (Op.position loco ticket front rear) ⌝ }
 {
-    if session.len() != layout::SESSION {
-        return Answer::refused(refusals::WRONG_LENGTH);
-    }
     let ruling = judging::position(session, loco, ticket, front, rear);
-    let counter = view::counter(session);
-    commit(session, counter, ruling)
+    commit_as_counted(session, ruling)
 }
 
 pub fn authority(session: &mut [u8], loco: Loco, ticket: Ticket, end: u32) -> Answer
     ensures { λ r. ⌜ r ≡ answerTo (now (session .entry)) (Op.authority loco ticket end) ⌝ }
     ensures { λ _. ⌜ now (session .exit) ≡ bytesAfter (now (session .entry)) (Op.authority loco ticket end) ⌝ }
 {
-    if session.len() != layout::SESSION {
-        return Answer::refused(refusals::WRONG_LENGTH);
-    }
     let ruling = judging::authority(session, loco, ticket, end);
-    let counter = view::counter(session);
-    commit(session, counter, ruling)
+    commit_as_counted(session, ruling)
 }
 
 pub fn danger(session: &mut [u8], loco: Loco, ticket: Ticket, location: u32) -> Answer
     ensures { λ r. ⌜ r ≡ answerTo (now (session .entry)) (Op.danger loco ticket location) ⌝ }
     ensures { λ _. ⌜ now (session .exit) ≡ bytesAfter (now (session .entry)) (Op.danger loco ticket location) ⌝ }
 {
-    if session.len() != layout::SESSION {
-        return Answer::refused(refusals::WRONG_LENGTH);
-    }
     let ruling = judging::danger(session, loco, ticket, location);
-    let counter = view::counter(session);
-    commit(session, counter, ruling)
+    commit_as_counted(session, ruling)
 }
 
 pub fn clear(session: &mut [u8], loco: Loco, ticket: Ticket, other: Ticket) -> Answer
     ensures { λ r. ⌜ r ≡ answerTo (now (session .entry)) (Op.clear loco ticket other) ⌝ }
     ensures { λ _. ⌜ now (session .exit) ≡ bytesAfter (now (session .entry)) (Op.clear loco ticket other) ⌝ }
 {
-    if session.len() != layout::SESSION {
-        return Answer::refused(refusals::WRONG_LENGTH);
-    }
     let ruling = judging::clear(session, loco, ticket, other);
-    let counter = view::counter(session);
-    commit(session, counter, ruling)
+    commit_as_counted(session, ruling)
 }
 
 // SOS between L2, named first, and L1.
@@ -140,12 +127,8 @@ pub fn sos(
     ensures { λ r. ⌜ r ≡ answerTo (now (session .entry)) (Op.sos loco2 ticket2 loco1 ticket1 grid) ⌝ }
     ensures { λ _. ⌜ now (session .exit) ≡ bytesAfter (now (session .entry)) (Op.sos loco2 ticket2 loco1 ticket1 grid) ⌝ }
 {
-    if session.len() != layout::SESSION {
-        return Answer::refused(refusals::WRONG_LENGTH);
-    }
     let ruling = judging::sos(session, loco2, ticket2, loco1, ticket1, grid);
-    let counter = view::counter(session);
-    commit(session, counter, ruling)
+    commit_as_counted(session, ruling)
 }
 
 // Steps back by the latest k entries kept. The ticket counter stays.

@@ -1,30 +1,22 @@
 -- `session::operations::clear` meets its contract. Assumes nothing.
-use mathlib.Core.Path.{_≡_, sym, ap, _∙_}
-use Prim.Native.Nat.{ℕ}
-use Rattle.session.specs.Answers.{taken}
+use mathlib.Core.Path.{refl}
 use Rattle.rules.specs.Rules.{Op, grants, counterAfter}
-use Rattle.session.proofs.OperationLaws.{op-wrong-length, op-bounded, op-committed}
+use Rattle.session.proofs.OperationLaws.{op-bounded, op-committed}
 use borrow.Author.Needs.{needs}
 use Rattle.session.proofs.operations.clear.Statement.{statement}
 use Rattle.session.proofs.operations.clear.Tie as tie
 
+commit-as-counted-requires : tie.Need-commit-as-counted-requires
+commit-as-counted-requires c κs =
+    let a = c .before .before .before .before .args in
+    op-bounded (a .session .now) (Op.clear (a .loco) (a .ticket) (a .other)) _ (c .before .clear .ensures)
+
 returns : tie.Need-returns
-returns c = let w = op-wrong-length (c .before .before .before .args .session .now) (Op.clear (c .before .before .before .args .loco) (c .before .before .before .args .ticket) (c .before .before .before .args .other)) (c .before .if1 .taken) in
-    (c .refused .ensures ∙ w .0, w .1)
-
-commit-requires : tie.Need-commit-requires
-commit-requires c κs = (c .before .before .before .before .before .if1 .left, op-bounded (c .before .before .before .before .before .before .before .args .session .now) (Op.clear (c .before .before .before .before .before .before .before .args .loco) (c .before .before .before .before .before .before .before .args .ticket) (c .before .before .before .before .before .before .before .args .other)) (c .before .before .before .clear .result) (c .before .before .before .clear .ensures))
-
-returns-2 : tie.Need-returns-2
 unfolding counterAfter grants
-returns-2 c = let made = c .before .before .commit in
-    op-committed (c .before .before .before .before .before .before .before .before .before .before .args .session .now) (Op.clear (c .before .before .before .before .before .before .before .before .before .before .args .loco) (c .before .before .before .before .before .before .before .before .before .before .args .ticket) (c .before .before .before .before .before .before .before .before .before .before .args .other)) (c .before .before .before .before .before .before .before .before .if1 .left) (c .before .before .before .before .before .before .clear .result) (made .result) (c .before .before .before .before .counter .result) (made .last .0)
-    (c .before .before .before .before .before .before .clear .ensures) (made .ensures .0) (made .ensures .1)
-    (ap (λ (k : ℕ). taken (c .before .before .before .before .before .before .before .before .before .before .args .session .now) k (c .before .before .before .before .before .before .clear .result)) (c .before .before .before .before .counter .ensures))
+returns c =
+    let a = c .before .before .before .before .before .before .before .args in
+    let made = c .before .before .commit-as-counted in
+    op-committed (a .session .now) (Op.clear (a .loco) (a .ticket) (a .other)) _ _ _ _ (c .before .before .before .before .clear .ensures) (made .ensures .0) (made .ensures .1) refl
 
 pub clear-spec : {M : Type 1} → statement M
-clear-spec =
-    tie.close
-    (tie.spec
-    (λ c κs. search needs) returns (λ c κs. search needs) (λ c κs. search needs) commit-requires (λ c. search needs)
-    returns-2)
+clear-spec = tie.close (tie.spec (λ c κs. search needs) commit-as-counted-requires (λ c. search needs) returns)
