@@ -1,4 +1,5 @@
--- DEMAND 3 OF THE BYTES: after any calls with any arguments, answered and done as the contracts of the nine operations say (the step back is one of them).
+-- DEMAND 3 OF THE BYTES: after any calls with any arguments, answered and done as the contracts of the nine operations say (the step back is one of them;
+-- that the contracts say just this is Links.antt).
 -- Assumes nothing.
 use mathlib.Core.Path.{_≡_, refl, sym, ap, _∙_, subst}
 use mathlib.Core.List.{List, [], _∷_}
