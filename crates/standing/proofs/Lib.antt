@@ -1,4 +1,5 @@
 pub mod RulesLaws
 pub mod ToldLaws
 pub mod KeptLaws
+pub mod Links
 pub mod Theorem

@@ -1,4 +1,5 @@
--- DEMAND 3 OF THE BYTES: after any calls with any arguments, answered and done as the contracts of the nine operations say (the step back is one of them).
+-- DEMAND 3 OF THE BYTES: after any calls with any arguments, answered and done as the contracts of the nine operations say (the step back is one of them;
+-- that the contracts say just this is Links.antt).
 -- Assumes nothing.
 use mathlib.Core.Path.{_≡_, refl, sym, ap, _∙_, subst}
 use mathlib.Core.List.{List, [], _∷_}
@@ -21,6 +22,7 @@ use Rattle.rules.specs.Rules.{Op}
 use Rattle.session.proofs.OperationLaws.{is-session}
 use Rattle.standing.specs.Standing.{rules, bytesLeft, session}
 use Rattle.standing.specs.Calls.{history, bytesAfterAll}
+use Rattle.standing.specs.Functions.{startDeed}
 use Rattle.standing.proofs.RulesLaws.{lawful}
 use Rattle.standing.proofs.KeptLaws.{kept}
 
@@ -73,7 +75,7 @@ calls-are bs (c ∷ cs) = ap (λ (l : List (Call Op)). c ∷ l) (calls-are (byte
 module _ (bs : List ℕ) (size : length bs ≡ sessionBytes) (cs : List (Call Op)) where
   -- what `start` makes, and the calls that are made on it
   abbrev empty : List ℕ
-  empty = startAfter bs
+  empty = startDeed bs .after
 
   abbrev calls : History rules
   calls = history empty cs
