@@ -1,8 +1,8 @@
 // Each operation judged on the lent bytes, which it only reads: what the rules say of it.
 use crate::named;
+use crate::refusals;
 use crate::requesting;
 use rulings::raising;
-use rulings::refusals;
 use rulings::registering;
 use rulings::ruling::Answer;
 use rulings::ruling::Ruling;

@@ -1,5 +1,5 @@
 // The train that a loco and a ticket name together.
-use rulings::refusals;
+use crate::refusals;
 use store::view;
 use trains::found::Found;
 use trains::kinds::Loco;

@@ -1,6 +1,6 @@
 // A request: a row, a ticket and a run of slots for it, or the ground on which it is refused.
+use crate::refusals;
 use crate::slots;
-use rulings::refusals;
 use rulings::registering;
 use rulings::ruling::Ruling;
 use store::view;

@@ -1,28 +1,4 @@
-// The grounds of refusal, each with its number, in the order of the checks.
-
-// the lent session has another length
-pub const WRONG_LENGTH: u32 = 34;
-
-// a named loco number out of range
-pub const BAD_LOCO: u32 = 10;
-
-// a request for no bytes, or for too many
-pub const BAD_BYTES: u32 = 11;
-
-// the loco is registered already
-pub const ALREADY_REGISTERED: u32 = 12;
-
-// 24 trains are registered
-pub const REGISTER_FULL: u32 = 13;
-
-// the ticket counter is at its last number
-pub const NO_TICKET_LEFT: u32 = 14;
-
-// no free run of slots is long enough
-pub const NO_FREE_RUN: u32 = 15;
-
-// no live train has this loco and ticket
-pub const NO_LIVE_TRAIN: u32 = 16;
+// The grounds on which an operation on named trains is refused, each with its number, in the order of the checks.
 
 // both trains of an SOS are the same
 pub const SAME_TRAIN: u32 = 23;
@@ -50,6 +26,3 @@ pub const NO_PLACE: u32 = 20;
 
 // no order under that ticket
 pub const NO_SUCH_ORDER: u32 = 21;
-
-// a step back by more than the entries kept
-pub const TOO_FAR_BACK: u32 = 22;

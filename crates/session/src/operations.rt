@@ -1,6 +1,6 @@
 // THE OPERATIONS on a lent session. Each judges first and then takes the effect in; a refusal changes no byte.
+use crate::refusals;
 use rules::judging;
-use rulings::refusals;
 use rulings::ruling::Answer;
 use rulings::ruling::Ruling;
 use store::back;

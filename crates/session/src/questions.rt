@@ -1,6 +1,6 @@
 // Questions that only read a session: for displays and tests.
+use crate::refusals;
 use rules::judging;
-use rulings::refusals;
 use rulings::ruling::Answer;
 use store::layout;
 use store::view;
