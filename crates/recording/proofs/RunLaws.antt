@@ -1,6 +1,6 @@
 -- A record that is run, and one that is not. Assumes nothing.
 use mathlib.Core.Bool.{true, false, cond}
-use mathlib.Core.Path.{_≡_, sym, ap, _∙_}
+use mathlib.Core.Path.{_≡_, refl, sym, ap, _∙_}
 use mathlib.Core.List.{List}
 use Prim.Native.Nat.{ℕ, _≤_}
 use lib.Dec.{ltb}
@@ -9,6 +9,7 @@ use Rattle.rulings.specs.declared.ruling.Answer.{Answer}
 use Rattle.standing.specs.Standing.{answered, bytesLeft}
 use Rattle.recording.specs.Records.{kindOf, recordLength, isRecord, callOf}
 use Rattle.recording.specs.Running.{mostRecords, isRun, notRun, runWith, ranRecord, bytesAfterRecord}
+use Rattle.recording.specs.declared.running.Ran.{Ran}
 use Rattle.recording.proofs.KindLaws.{both}
 use Rattle.recording.proofs.FormLaws.{record-whole}
 use Rattle.recording.proofs.CallLaws.{Called}
@@ -30,6 +31,10 @@ module _ (bs held : List ℕ) (before : ℕ) where
     sym (λ i. cond (e i) (bytesLeft bs (callOf held)) bs),
   )
 
+  -- so a record that is not run is told by the bytes that it used: none
+  pub not-run-used : isRun held before ≡ false → ranRecord bs held before .used ≡ 0
+  not-run-used e = ap (λ (r : Ran). r .used) (sym (not-run e .0))
+
   pub is-run : {a : Answer} {after : List ℕ} → isRun held before ≡ true → Called bs (callOf held) a after
       → (runWith before (kindOf held) (recordLength held) a ≡ ranRecord bs held before) × (after ≡ bytesAfterRecord bs held before)
   unfolding ranRecord bytesAfterRecord
@@ -38,3 +43,7 @@ module _ (bs held : List ℕ) (before : ℕ) where
         ∙ sym (λ i. cond (e i) (runWith before (kindOf held) (recordLength held) (answered bs (callOf held))) (notRun before)),
     made .1 ∙ sym (λ i. cond (e i) (bytesLeft bs (callOf held)) bs),
   )
+
+  -- and one that is run by those that it used: the record's
+  pub run-used : isRun held before ≡ true → ranRecord bs held before .used ≡ recordLength held
+  run-used e = ap (λ (r : Ran). r .used) (sym (is-run e (refl, refl) .0))

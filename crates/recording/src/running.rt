@@ -73,7 +73,8 @@ pub fn run(session: &mut [u8], held: &[u8], before: u32) -> Ran
     }
     let kind = records::kind_of(held);
     let length = records::record_length(held);
+    let start = records::HEAD as usize;
     let end = length as usize;
-    let answer = calls::make(session, kind, &held[records::HEAD..end]);
+    let answer = calls::make(session, kind, &held[start..end]);
     Ran::run_with(before, kind, length, answer)
 }
