@@ -27,20 +27,6 @@ pub struct Ran {
 }
 
 impl Ran {
-    fn not_run(before: u32) -> Ran
-        ensures { λ r. ⌜ r ≡ notRun before ⌝ }
-    {
-        Ran {
-            number: before as u64 + 1,
-            kind: 0,
-            answer: BAD_RECORD,
-            first: 0,
-            second: 0,
-            third: 0,
-            used: 0,
-        }
-    }
-
     fn run_with(before: u32, kind: u32, length: u32, answer: Answer) -> Ran
         ensures { λ r. ⌜ r ≡ runWith before kind length answer ⌝ }
     {
@@ -53,6 +39,12 @@ impl Ran {
             third: answer.third,
             used: length,
         }
+    }
+
+    fn not_run(before: u32) -> Ran
+        ensures { λ r. ⌜ r ≡ notRun before ⌝ }
+    {
+        Ran::run_with(before, 0, 0, Answer::refused(BAD_RECORD))
     }
 }
 
