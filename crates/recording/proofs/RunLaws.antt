@@ -5,10 +5,11 @@ use mathlib.Core.List.{List}
 use Prim.Native.Nat.{ℕ, _≤_}
 use lib.Dec.{ltb}
 use lib.ListN.{length}
-use Rattle.replay.specs.Demand3.{Call}
+use Rattle.replay.specs.Demand3.{Call, op, back}
 use Rattle.rules.specs.Rules.{Op}
 use Rattle.rulings.specs.Ruling.{refusedWith}
 use Rattle.rulings.specs.declared.ruling.Answer.{Answer}
+use Rattle.session.proofs.AfterLaws.{refused-bytes, refused-back}
 use Rattle.standing.specs.Told.{answerBy}
 use Rattle.standing.proofs.ToldLaws.{told-refused, told-whole}
 use Rattle.standing.specs.Standing.{answered, bytesLeft}
@@ -23,6 +24,12 @@ use Rattle.recording.proofs.CallLaws.{Called}
 plain : (bs : List ℕ) (c : Call Op) → (answered bs c .answer ≡ 0 → ⊥) → answered bs c ≡ refusedWith (answered bs c .answer)
 unfolding answerBy
 plain bs c h = sym (told-whole bs c) ∙ ap answerBy (told-refused c (answered bs c) h)
+
+-- and the bytes that it leaves
+same : (bs : List ℕ) (c : Call Op) → (answered bs c .answer ≡ 0 → ⊥) → bytesLeft bs c ≡ bs
+unfolding answered bytesLeft
+same bs (op o) h = refused-bytes bs o h
+same bs (back k) h = refused-back bs k h
 
 module _ (held : List ℕ) (before : ℕ) where
   -- a record that is run is whole
@@ -70,4 +77,13 @@ module _ (bs held : List ℕ) (before : ℕ) where
     where
       of : (b : Bool) → (ranIf b bs held before .answer ≡ 0 → ⊥) → ranIf b bs held before ≡ runWith before (ranIf b bs held before .kind) (ranIf b bs held before .used) (refusedWith (ranIf b bs held before .answer))
       of true n = ap (runWith before (kindOf held) (recordLength held)) (plain bs (callOf held) n)
+      of false n = refl
+
+  -- and changes no byte
+  pub refusal-same : (ranRecord bs held before .answer ≡ 0 → ⊥) → bytesAfterRecord bs held before ≡ bs
+  unfolding ranRecord bytesAfterRecord
+  refusal-same h = of (isRun held before) h
+    where
+      of : (b : Bool) → (ranIf b bs held before .answer ≡ 0 → ⊥) → cond b (bytesLeft bs (callOf held)) bs ≡ bs
+      of true n = same bs (callOf held) n
       of false n = refl
