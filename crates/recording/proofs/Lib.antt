@@ -1,0 +1,4 @@
+pub mod KindLaws
+pub mod CallLaws
+pub mod FormLaws
+pub mod RunLaws
