@@ -124,17 +124,31 @@ fn played(session: &mut [u8], input: &mut [u8], output: &mut [u8]) -> Play {
     play
 }
 
-// Writes the rest of the listing. Where the recording can't be read any further, the last line is left out.
-fn finish(output: &mut [u8], play: Play) {
+fn say(text: &[u8]) {
+    io::write_all(STDERR_FILENO, text);
+}
+
+// The last line, where the recording was read to its end.
+fn with_end(output: &mut [u8], play: Play) -> Pending {
     let held = play.held;
     let rest = play.pending;
     if held.failed {
-        pending::written(output, rest);
-        io::write_all(STDERR_FILENO, b"bench: the recording cannot be read\n");
-        return;
+        return rest;
     }
-    let whole = pending::put(output, rest, lines::end_line(play.lines, play.accepted));
-    pending::written(output, whole);
+    pending::put(output, rest, lines::end_line(play.lines, play.accepted))
+}
+
+// Writes the rest of the listing. One that lacks its last line is said to.
+fn finish(output: &mut [u8], play: Play) {
+    let held = play.held;
+    let rest = with_end(output, play);
+    let last = pending::written(output, rest);
+    if held.failed {
+        say(b"bench: the recording cannot be read\n");
+    }
+    if !last.open {
+        say(b"bench: the listing cannot be written\n");
+    }
 }
 
 fn main() {

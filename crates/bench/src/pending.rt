@@ -20,8 +20,11 @@ impl Pending {
     }
 }
 
-// Writes what is pending.
+// Writes what is pending. Behind a write that failed nothing more is written.
 pub(crate) fn written(buffer: &[u8], pending: Pending) -> Pending {
+    if !pending.open {
+        return pending;
+    }
     let n = parts::at_most(pending.filled, buffer.len());
     let is_written = io::write_all(STDOUT_FILENO, &buffer[0..n]);
     Pending {
