@@ -3,6 +3,7 @@ use mathlib.Core.Bool.{Bool, cond, _&&_}
 use mathlib.Core.List.{List}
 use Prim.Native.Nat.{ℕ, _+_}
 use lib.Dec.{ltb}
+use Rattle.rulings.specs.Ruling.{refusedWith}
 use Rattle.rulings.specs.declared.ruling.Answer.{Answer}
 use Rattle.standing.specs.Standing.{answered, bytesLeft}
 use Rattle.recording.specs.Records.{kindOf, recordLength, isRecord, callOf}
@@ -20,15 +21,14 @@ mostRecords = 4294967295
 unfoldable pub isRun : List ℕ → ℕ → Bool
 isRun held before = ltb before mostRecords && isRecord held
 
--- a record that is not run: kind 0, zeros, and no byte used
-abbrev pub notRun : ℕ → Ran
-notRun before =
-    record { number = before + 1; kind = 0; answer = badRecord; first = 0; second = 0; third = 0; used = 0 }
-
--- a record of this kind and length that is run, with its answer
+-- a record of this kind that is run, with its answer, and uses so many bytes
 abbrev pub runWith : ℕ → ℕ → ℕ → Answer → Ran
-runWith before kind length a =
-    record { number = before + 1; kind = kind; answer = a .answer; first = a .first; second = a .second; third = a .third; used = length }
+runWith before kind used a =
+    record { number = before + 1; kind = kind; answer = a .answer; first = a .first; second = a .second; third = a .third; used = used }
+
+-- a record that is not run: kind 0, and no byte used
+abbrev pub notRun : ℕ → Ran
+notRun before = runWith before 0 0 (refusedWith badRecord)
 
 -- what running the first record tells
 unfoldable pub ranRecord : List ℕ → List ℕ → ℕ → Ran

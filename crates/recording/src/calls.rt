@@ -99,7 +99,7 @@ fn step_back(session: &mut [u8], payload: &[u8]) -> Answer
     operations::step_back(session, numbers::half_at(payload, 0))
 }
 
-// Kind 9 is the last one; a number that is no kind has no payload, and gets here with none.
+// The last arm is that of kind 9. A number that is no kind takes nothing, and of nothing it makes a step back by 0; no record has one.
 pub(crate) fn make(session: &mut [u8], kind: u32, payload: &[u8]) -> Answer
     ensures { λ r. ⌜ r ≡ answered (now (session .entry)) (callBy kind (now (payload .entry))) ⌝ }
     ensures { λ _. ⌜ now (session .exit) ≡ bytesLeft (now (session .entry)) (callBy kind (now (payload .entry))) ⌝ }

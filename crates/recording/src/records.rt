@@ -4,11 +4,10 @@ ghost use mathlib.Core.Path.{_≡_};
 ghost use Rattle.recording.specs.Kinds.{payloadLength};
 ghost use Rattle.recording.specs.Records.{kindOf, recordLength, isRecord};
 
-// 4B 56
-const MARK: u32 = 19286;
+const MARK: u32 = 0x4B56;
 
 // The bytes before the payload.
-pub(crate) const HEAD: usize = 4;
+pub(crate) const HEAD: u32 = 4;
 
 pub(crate) fn kind_of(held: &[u8]) -> u32
     ensures { λ r. ⌜ r ≡ kindOf (now (held .entry)) ⌝ }
@@ -38,7 +37,7 @@ fn payload_length(kind: u32) -> u32
 pub(crate) fn record_length(held: &[u8]) -> u32
     ensures { λ r. ⌜ r ≡ recordLength (now (held .entry)) ⌝ }
 {
-    4 + payload_length(kind_of(held))
+    HEAD + payload_length(kind_of(held))
 }
 
 // Does `held` begin with a whole record?

@@ -27,20 +27,6 @@ pub struct Ran {
 }
 
 impl Ran {
-    fn not_run(before: u32) -> Ran
-        ensures { λ r. ⌜ r ≡ notRun before ⌝ }
-    {
-        Ran {
-            number: before as u64 + 1,
-            kind: 0,
-            answer: BAD_RECORD,
-            first: 0,
-            second: 0,
-            third: 0,
-            used: 0,
-        }
-    }
-
     fn run_with(before: u32, kind: u32, length: u32, answer: Answer) -> Ran
         ensures { λ r. ⌜ r ≡ runWith before kind length answer ⌝ }
     {
@@ -54,6 +40,12 @@ impl Ran {
             used: length,
         }
     }
+
+    fn not_run(before: u32) -> Ran
+        ensures { λ r. ⌜ r ≡ notRun before ⌝ }
+    {
+        Ran::run_with(before, 0, 0, Answer::refused(BAD_RECORD))
+    }
 }
 
 // Does `held` begin with a record that is run, where `before` records came before it?
@@ -63,7 +55,8 @@ fn is_run(held: &[u8], before: u32) -> bool
     before < MOST_RECORDS && records::is_record(held)
 }
 
-// Runs the first record of `held`, where `before` records came before it. What follows the record is not read.
+// Runs the first record of `held`, where `before` records came before it. What follows the record is not read. Where `held` begins with no whole
+// record, or `before` is the most that a recording has, the answer is 24 and the session stays as it was.
 pub fn run(session: &mut [u8], held: &[u8], before: u32) -> Ran
     ensures { λ r. ⌜ r ≡ ranRecord (now (session .entry)) (now (held .entry)) before ⌝ }
     ensures { λ _. ⌜ now (session .exit) ≡ bytesAfterRecord (now (session .entry)) (now (held .entry)) before ⌝ }
@@ -73,7 +66,8 @@ pub fn run(session: &mut [u8], held: &[u8], before: u32) -> Ran
     }
     let kind = records::kind_of(held);
     let length = records::record_length(held);
+    let start = records::HEAD as usize;
     let end = length as usize;
-    let answer = calls::make(session, kind, &held[records::HEAD..end]);
+    let answer = calls::make(session, kind, &held[start..end]);
     Ran::run_with(before, kind, length, answer)
 }

@@ -42,4 +42,4 @@ returns-2 c = let a = c .before .before .before .before .before .before .before 
     (c .run-with .ensures ∙ ap₂ (λ (k n : ℕ). runWith (a .before) k n (made .result)) kind length ∙ w .0, w .1)
 
 pub run-spec : {M : Type 1} → statement M
-run-spec = tie.close (tie.spec (λ c κs. search needs) (λ c κs. search needs) returns (λ c κs. search needs) (λ c κs. search needs) (λ c. search needs) sub-make part-make-start part-make-end (λ c κs. search needs) (λ c κs. search needs) (λ c. search needs) returns-2)
+run-spec = tie.close (tie.spec (λ c κs. search needs) (λ c κs. search needs) returns (λ c κs. search needs) (λ c κs. search needs) (λ c. search needs) (λ c. search needs) sub-make part-make-start part-make-end (λ c κs. search needs) (λ c κs. search needs) (λ c. search needs) returns-2)
