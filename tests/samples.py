@@ -1,8 +1,9 @@
 #!/usr/bin/env python3
 """Runs every sample through a listing program and compares: tests/samples.py PROGRAM ...
 
-PROGRAM reads a recording on standard input and writes its listing to standard output. The recordings themselves are
-compared with what tools/record makes of their lines, and with what it makes of the lines that it shows.
+PROGRAM reads a recording on standard input and writes its listing to standard output, as ./bench does. The recordings
+themselves are compared with what tools/record makes of their lines, and with what it makes of the lines that it shows.
+Prints a line for each sample; the exit status is 1 where one differs.
 """
 
 import pathlib
@@ -32,9 +33,13 @@ def differences(sample, program):
 
 def main(program):
     samples = sorted((ROOT / "samples").glob("*.rec"))
-    problems = [f"{sample.name}: {problem}" for sample in samples for problem in differences(sample, program)]
-    print(*problems, f"{len(samples)} samples, {len(problems)} differences", sep="\n")
-    return 1 if problems or not samples else 0
+    differing = 0
+    for sample in samples:
+        problems = list(differences(sample, program))
+        differing += bool(problems)
+        print(f"{sample.name}: {'; '.join(problems) or 'as it should be'}")
+    print(f"{len(samples)} samples, {differing} differ")
+    return 1 if differing or not samples else 0
 
 
 if __name__ == "__main__":

@@ -2,13 +2,13 @@
 use mathlib.Core.Bool.{Bool, true, _&&_}
 use mathlib.Core.Path.{_≡_, sym, ap, _∙_}
 use mathlib.Core.List.{List}
-use Prim.Native.Nat.{ℕ, _+_, _-_, _≤_}
+use Prim.Native.Nat.{ℕ, _+_, _-_, _<_, _≤_}
 use native.Mathlib.Omega.{arith}
-use borrow.Author.Tests.{leb-true}
+use borrow.Author.Tests.{leb-true, ltb-true}
 use lib.Dec.{eqb, leb, ltb}
 use lib.ListN.{length, take, drop}
 use Rattle.packets.specs.Numbers.{numberAt}
-use Rattle.recording.specs.Kinds.{payloadLength}
+use Rattle.recording.specs.Kinds.{among, payloadLength}
 use Rattle.recording.specs.Records.{mark, headBytes, longest, kindOf, saidLength, recordLength, isRecord, payloadOf}
 use Rattle.recording.proofs.KindLaws.{both, payload-most}
 
@@ -30,6 +30,17 @@ module _ (held : List ℕ) where
       let n : ℕ = payloadLength (kindOf held) in
       let head : Bool = eqb (numberAt 2 held 0) mark && ltb 0 n && eqb (saidLength held) n in
       leb-true (recordLength held) (length held) (both head (leb (recordLength held) (length held)) e .1)
+
+  -- and its kind is not 0
+  pub record-kind : isRecord held ≡ true → kindOf held ≡ 0 → ⊥
+  unfolding isRecord payloadLength among
+  record-kind e z =
+      let n : ℕ = payloadLength (kindOf held) in
+      let marked : Bool = eqb (numberAt 2 held 0) mark in
+      let said : Bool = eqb (saidLength held) n in
+      let whole : Bool = leb (recordLength held) (length held) in
+      let some : 0 < n = ltb-true 0 n (both marked (ltb 0 n) (both (marked && ltb 0 n) said (both (marked && ltb 0 n && said) whole e .0) .0) .1) in
+      omega (arith, some, ap payloadLength z)
 
   -- the payload is what stands from the head to the record's end
   pub payload-cut : (end : ℕ) → end ≡ recordLength held → take (end - headBytes) (drop headBytes held) ≡ payloadOf held

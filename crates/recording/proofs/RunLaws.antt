@@ -17,7 +17,7 @@ use Rattle.recording.specs.Records.{kindOf, recordLength, isRecord, call
 use Rattle.recording.specs.Running.{mostRecords, isRun, notRun, runWith, ranRecord, bytesAfterRecord}
 use Rattle.recording.specs.declared.running.Ran.{Ran}
 use Rattle.recording.proofs.KindLaws.{both}
-use Rattle.recording.proofs.FormLaws.{record-whole}
+use Rattle.recording.proofs.FormLaws.{record-whole, record-kind}
 use Rattle.recording.proofs.CallLaws.{Called}
 
 -- what a call answers that is refused
@@ -68,6 +68,10 @@ module _ (bs held : List ℕ) (before : ℕ) where
   -- and one that is run by those that it used: the record's
   pub run-used : isRun held before ≡ true → ranRecord bs held before .used ≡ recordLength held
   run-used e = ap (λ (r : Ran). r .used) (sym (is-run e (refl, refl) .0))
+
+  -- so the line of a record has kind 0 exactly where it is not run
+  pub run-kind : isRun held before ≡ true → ranRecord bs held before .kind ≡ 0 → ⊥
+  run-kind e z = record-kind held (run-record held before e) (ap (λ (r : Ran). r .kind) (is-run e (refl, refl) .0) ∙ z)
 
   -- EVERY REFUSAL has zeros for its three numbers
   pub refusal-plain : (ranRecord bs held before .answer ≡ 0 → ⊥)

@@ -33,11 +33,12 @@ pub record Kind : Type 0 where
   pub takes : ℕ
   pub makes : List ℕ → Call Op
 
+-- a line of the table
 infixl 70 kind_takes_makes_
 abbrev pub kind_takes_makes_ : ℕ → ℕ → (List ℕ → Call Op) → Kind
 kind n takes l makes c = record { number = n; takes = l; makes = c }
 
--- an SOS names L2 first, then L1
+-- THE TABLE. Kinds 2 to 8 begin with loco and ticket; an SOS names L2 first, then L1
 abbrev pub kinds : List Kind
 kinds =
     kind 1 takes 6 makes (λ p. op (request (locoAt p 0) (numberAt 2 p 4)))

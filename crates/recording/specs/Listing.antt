@@ -1,5 +1,5 @@
 -- THE LISTING of a recording: from the empty session the records are run one after another, each gets its line, and a record that is not run is
--- the last. Assumes nothing.
+-- the last.
 use mathlib.Core.Bool.{cond}
 use mathlib.Core.List.{List, [], _∷_, _++_}
 use Prim.Native.Nat.{ℕ, zero, suc, _+_}
@@ -30,6 +30,7 @@ ranIn (suc most) bs (b ∷ more) before =
     (ranIn most (bytesAfterRecord bs (b ∷ more) before) (drop (recordLength (b ∷ more)) (b ∷ more)) (before + 1))
     []
 
+-- all that is held
 abbrev pub ranAll : List ℕ → List ℕ → ℕ → List Ran
 ranAll bs held before = ranIn (length held) bs held before
 

@@ -1,5 +1,5 @@
--- The form of a record: the mark, the kind, the payload's length and the payload. What stands before the end of a record decides; what follows
--- it is not read.
+-- The form of a record: the mark, the kind, the payload's length and the payload. What follows a record
+-- is not read.
 use mathlib.Core.Bool.{Bool, _&&_}
 use mathlib.Core.List.{List}
 use Prim.Native.Nat.{ℕ, _+_, _*_}

@@ -55,7 +55,8 @@ fn is_run(held: &[u8], before: u32) -> bool
     before < MOST_RECORDS && records::is_record(held)
 }
 
-// Runs the first record of `held`, where `before` records came before it. What follows the record is not read.
+// Runs the first record of `held`, where `before` records came before it. What follows the record is not read. Where `held` begins with no whole
+// record, or `before` is the most that a recording has, the answer is 24 and the session stays as it was.
 pub fn run(session: &mut [u8], held: &[u8], before: u32) -> Ran
     ensures { λ r. ⌜ r ≡ ranRecord (now (session .entry)) (now (held .entry)) before ⌝ }
     ensures { λ _. ⌜ now (session .exit) ≡ bytesAfterRecord (now (session .entry)) (now (held .entry)) before ⌝ }

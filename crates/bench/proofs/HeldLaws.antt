@@ -1,0 +1,119 @@
+-- Laws of what is held. Assumes nothing.
+use mathlib.Core.Path.{_≡_, refl, sym, ap, ap₂, _∙_}
+use mathlib.Core.Bool.{false}
+use mathlib.Core.List.{List, [], _∷_, _++_}
+use Prim.Native.Nat.{ℕ, zero, suc, _+_, _-_, _≤_, _<_, min}
+use native.Mathlib.Decide.{decLt}
+use native.Mathlib.Numerals.{add-one}
+use native.Mathlib.Omega.{arith}
+use lib.ListN.{length, take, drop, getD, set, length-take, length-drop, length-set, drop-of-length-le}
+use lib.Seq.{take-all, take-take, length-take-le, take-nil, drop-nil, drop-drop, take-suc, take-suc-set, drop-set-lt, getD-drop}
+use borrow.Rule.Slice.PartMut.{putMid, take-put}
+use Rattle.bench.specs.declared.held.Held.{Held}
+use Rattle.bench.specs.Held.{stretch, heldBytes, Continues, IsReady, ReadOn}
+
+-- ---- a stretch whose places are kept within the buffer
+
+empty-past : (b : List ℕ) (at end : ℕ) → end ≤ at → stretch b at end ≡ []
+unfolding stretch
+empty-past b at end h = let e : end - at ≡ 0 = omega arith in rw e
+
+-- the bytes up to a place past the end are those up to the end
+stretch-long : (b : List ℕ) (at end : ℕ) → length b ≤ end → stretch b at end ≡ stretch b at (length b)
+unfolding stretch
+stretch-long b at end h =
+    take-all (end - at) (drop at b) (rw length-drop (omega arith))
+    ∙ sym (take-all (length b - at) (drop at b) (rw length-drop (omega arith)))
+
+-- and from a place past the end there are none
+stretch-past : (b : List ℕ) (at end : ℕ) → length b ≤ at → stretch b at end ≡ []
+unfolding stretch
+stretch-past b at end h = rw (drop-of-length-le b h) (take-nil (end - at))
+
+pub stretch-within : (b : List ℕ) (at end a e : ℕ) → e ≡ min end (length b) → a ≡ min at e → stretch b a e ≡ stretch b at end
+stretch-within b at end a e he ha = of (decLt at e) (decLt end (length b))
+  where
+    of : Dec (at < e) → Dec (end < length b) → stretch b a e ≡ stretch b at end
+    of (yes l) (yes m) =
+        let p : a ≡ at = omega arith in
+        let q : e ≡ end = omega arith in
+        ap₂ (stretch b) p q
+    of (yes l) (no m) =
+        let p : a ≡ at = omega arith in
+        let q : e ≡ length b = omega arith in
+        ap₂ (stretch b) p q ∙ sym (stretch-long b at end (omega arith))
+    of (no l) (yes m) = empty-past b a e (omega arith) ∙ sym (empty-past b at end (omega arith))
+    of (no l) (no m) = empty-past b a e (omega arith) ∙ sym (stretch-past b at end (omega arith))
+
+pub stretch-length : (b : List ℕ) (a e : ℕ) → e ≤ length b → length (stretch b a e) ≡ e - a
+unfolding stretch
+stretch-length b a e h = length-take-le (e - a) (drop a b) (rw length-drop (omega arith))
+
+-- so it has as many bytes as lie between those places
+pub within-enough : (b : List ℕ) (at end a e n : ℕ) → e ≡ min end (length b) → a ≡ min at e → n ≤ e - a → n ≤ length (stretch b at end)
+within-enough b at end a e n he ha h = rw (← stretch-within b at end a e he ha, stretch-length b a e (omega arith)) h
+
+-- ---- behind the bytes that were used
+
+drop-take : (m n : ℕ) (l : List ℕ) → drop m (take n l) ≡ take (n - m) (drop m l)
+drop-take zero n l = let e : n - 0 ≡ n = omega arith in rw e
+drop-take (suc m) zero l = let e : 0 - suc m ≡ 0 = omega arith in rw e
+drop-take (suc m) (suc n) [] = sym (take-nil (suc n - suc m))
+drop-take (suc m) (suc n) (x ∷ l) = let e : suc n - suc m ≡ n - m = omega arith in rw e (drop-take m n l)
+
+stretch-drop : (b : List ℕ) (at end used : ℕ) → drop used (stretch b at end) ≡ stretch b (at + used) end
+unfolding stretch
+stretch-drop b at end used =
+    let e : end - at - used ≡ end - (at + used) = omega arith in
+    drop-take used (end - at) (drop at b) ∙ ap₂ take e (drop-drop used at b)
+
+pub stretch-behind : (b : List ℕ) (at end used m k : ℕ) → m ≡ min at end → k ≡ min used (end - m)
+    → stretch b (end - (end - m) + k) end ≡ drop used (stretch b at end)
+stretch-behind b at end used m k hm hk = of (decLt (at + used) end) ∙ sym (stretch-drop b at end used)
+  where
+    of : Dec (at + used < end) → stretch b (end - (end - m) + k) end ≡ stretch b (at + used) end
+    of (yes l) = ap (λ (n : ℕ). stretch b n end) (omega arith)
+    of (no l) = empty-past b (end - (end - m) + k) end (omega arith) ∙ sym (empty-past b (at + used) end (omega arith))
+
+-- ---- bytes moved to the front, one by one
+
+module _ (s t : List ℕ) (at i : ℕ) (h : at + i < length s) (same : length t ≡ length s) (kept : drop i t ≡ drop i s) where
+  moved-byte : getD t (at + i) 0 ≡ getD (drop at s) i 0
+  moved-byte =
+      let e : i + at ≡ at + i = omega arith in
+      let here : getD t (i + at) 0 ≡ getD s (i + at) 0 = sym (getD-drop i t at 0) ∙ ap (λ (l : List ℕ). getD l at 0) kept ∙ getD-drop i s at 0 in
+      rw (getD-drop, ← e) here
+
+  pub moved-front : take i t ≡ take i (drop at s) → take (i + 1) (set t i (getD t (at + i) 0)) ≡ take (i + 1) (drop at s)
+  moved-front front =
+      let l : i < length (drop at s) = rw length-drop (omega arith) in
+      rw (add-one, take-suc-set t i (getD t (at + i) 0) (omega arith), take-suc (drop at s) i 0 l, front, moved-byte)
+
+  pub moved-rest : drop (i + 1) (set t i (getD t (at + i) 0)) ≡ drop (i + 1) s
+  moved-rest =
+      drop-set-lt (i + 1) t i (getD t (at + i) 0) (omega arith)
+      ∙ sym (drop-drop 1 i t) ∙ ap (drop 1) kept ∙ drop-drop 1 i s
+
+-- ---- read on behind what was moved
+
+-- a read from `end` on leaves what stands before
+pub read-keeps : (xs ys : List ℕ) (kept end k : ℕ) → kept ≤ end → end ≤ length xs → take kept (putMid end k xs ys) ≡ take kept xs
+read-keeps xs ys kept end k l h =
+    sym (take-take kept end (putMid end k xs ys) l) ∙ ap (take kept) (take-put end k xs ys h) ∙ take-take kept end xs l
+
+-- b is the buffer before its bytes are moved, t then, and u when read on; a and e are the places kept within the buffer
+module _ (b t u : List ℕ) (at end a e : ℕ) (r : Held) (he : e ≡ min end (length b)) (ha : a ≡ min at e)
+    (moved : take (e - a) t ≡ take (e - a) (drop a b)) (on : ReadOn (e - a) t u r) where
+  held-all : heldBytes u r ≡ take (r .end) u
+  unfolding stretch
+  held-all = let z : r .end - 0 ≡ r .end = omega arith in rw (on .front, z)
+
+  begun : Continues (stretch b a e) (take (r .end) u)
+  unfolding stretch
+  begun = rw (stretch-length b a e (omega arith), take-take (e - a) (r .end) u (on .more)) (on .same ∙ moved)
+
+  pub read-continues : Continues (stretch b at end) (heldBytes u r)
+  read-continues = rw held-all (rw (stretch-within b at end a e he ha) at begun)
+
+  pub read-ready : IsReady u r
+  read-ready more = rw (held-all, length-take-le (r .end) u (on .inside)) (on .enough more)

@@ -1,0 +1,18 @@
+-- `bench::held::part` meets its contract. Assumes nothing.
+use borrow.Author.Needs.{needs}
+use Rattle.bench.specs.Held.{stretch}
+use Rattle.bench.proofs.HeldLaws.{stretch-within}
+use Rattle.bench.proofs.held.part.Statement.{statement}
+use Rattle.bench.proofs.held.part.Tie as tie
+
+returns : tie.Need-returns
+unfolding stretch
+returns c =
+    let a = c .before .before .before .before .args in
+    stretch-within (a .buffer .now) (a .held .at) (a .held .end) _ _ (c .before .before .at-most .ensures .1) (c .before .at-most2 .ensures .1)
+
+pub part-spec : {M : Type 1} → statement M
+part-spec =
+    tie.close
+    (tie.spec
+    (λ c κs. search needs) (λ c κs. search needs) (λ c. search needs) (λ c. search needs) (λ c. search needs) returns)

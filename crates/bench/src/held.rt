@@ -1,0 +1,122 @@
+// What is held of the recording: a stretch of a buffer that is read into as records are used.
+use crate::parts;
+use libc::STDIN_FILENO;
+use recording::running::LONGEST;
+ghost use mathlib.Core.Path.{_≡_};
+ghost use Prim.Native.Nat.{_+_, _≤_};
+ghost use lib.ListN.{length, take, drop};
+ghost use Rattle.bench.specs.Held.{heldBytes, IsBehind, Continues, IsReady, ReadOn};
+
+// The bytes of the buffer from `at` up to `end`. Once a read has given nothing the input has ended, unless that read failed.
+pub(crate) struct Held {
+    pub at: usize,
+    pub end: usize,
+    pub ended: bool,
+    pub failed: bool,
+}
+
+// What one read gave.
+struct Got {
+    count: usize,
+    failed: bool,
+}
+
+fn read_some(buffer: &mut [u8]) -> Got
+    ensures { λ r. ⌜ r .count ≤ length (now (buffer .entry)) ⌝ }
+{
+    let got = libc::read(STDIN_FILENO, buffer);
+    Got {
+        count: io::count(got, buffer),
+        failed: got < 0,
+    }
+}
+
+// Makes the bytes from `at` on the first ones, `n` of them.
+fn to_front(buffer: &mut [u8], at: usize, n: usize)
+    requires { ⌜ at + n ≤ length (now buffer) ⌝ }
+    ensures { λ _. ⌜ take n (now (buffer .exit)) ≡ take n (drop at (now (buffer .entry))) ⌝ }
+{
+    let mut i: usize = 0;
+    while i < n {
+        buffer[i] = buffer[at + i];
+        i += 1;
+    }
+}
+
+impl Held {
+    pub(crate) fn nothing() -> Held {
+        Held {
+            at: 0,
+            end: 0,
+            ended: false,
+            failed: false,
+        }
+    }
+
+    // The same without the bytes that a record used.
+    pub(crate) fn behind(self, used: usize) -> Held
+        ensures { λ r. ⌜ IsBehind used self r ⌝ }
+    {
+        let left = self.end - parts::at_most(self.at, self.end);
+        Held {
+            at: self.end - left + parts::at_most(used, left),
+            end: self.end,
+            ended: self.ended,
+            failed: self.failed,
+        }
+    }
+}
+
+// The bytes that are held.
+pub(crate) fn part(buffer: &[u8], held: Held) -> &[u8]
+    ensures { λ r. ⌜ now r ≡ heldBytes (now (buffer .entry)) held ⌝ }
+{
+    let end = parts::at_most(held.end, buffer.len());
+    let at = parts::at_most(held.at, end);
+    &buffer[at..end]
+}
+
+// Reads behind the first `kept` bytes until the longest record would be whole, or nothing more comes.
+fn read_on(buffer: &mut [u8], kept: usize) -> Held
+    requires { ⌜ kept ≤ length (now buffer) ⌝ }
+    ensures { λ r. ⌜ ReadOn kept (now (buffer .entry)) (now (buffer .exit)) r ⌝ }
+{
+    let mut end = kept;
+    while end < LONGEST {
+        let got = read_some(&mut buffer[end..]);
+        if got.count == 0 {
+            return Held {
+                at: 0,
+                end: end,
+                ended: true,
+                failed: got.failed,
+            };
+        }
+        end += got.count;
+    }
+    Held {
+        at: 0,
+        end: end,
+        ended: false,
+        failed: false,
+    }
+}
+
+// Holds the longest record, or all that is left. What is held is moved to the front only where it is shorter, so a byte is moved at
+// most once for each read.
+pub(crate) fn ready(buffer: &mut [u8], held: Held) -> Held
+    ensures { λ r. ⌜ Continues (heldBytes (now (buffer .entry)) held) (heldBytes (now (buffer .exit)) r) ⌝ }
+    ensures { λ r. ⌜ IsReady (now (buffer .exit)) r ⌝ }
+{
+    let end = parts::at_most(held.end, buffer.len());
+    let at = parts::at_most(held.at, end);
+    let kept = end - at;
+    if held.ended {
+        return held;
+    }
+    if LONGEST <= kept {
+        return held;
+    }
+    to_front(buffer, at, kept);
+    read_on(buffer, kept)
+}
