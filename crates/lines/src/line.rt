@@ -1,0 +1,67 @@
+// A line that is written from its front, in an array with room for the longest.
+ghost use mathlib.Core.Path.{_≡_};
+ghost use mathlib.Core.List.{[]};
+ghost use Prim.Native.Nat.{_%_};
+ghost use Rattle.lines.specs.Decimal.{digitByte, decimal};
+ghost use Rattle.lines.specs.Line.{lineOf, withByte, withText};
+ghost use Rattle.lines.specs.Text.{next};
+
+// More than the longest line has: 20 digits, five times a space and 10 digits, and the newline.
+const ROOM: usize = 80;
+
+const SPACE: u8 = b' ';
+
+pub(crate) const NEWLINE: u8 = b'\n';
+
+// The first `len` bytes are the line, its newline with it; those behind are 0.
+pub struct Line {
+    pub bytes: [u8; ROOM],
+    pub len: usize,
+}
+
+impl Line {
+    pub(crate) fn empty() -> Line
+        ensures { λ r. ⌜ r ≡ lineOf [] ⌝ }
+    {
+        Line {
+            bytes: [0; ROOM],
+            len: 0,
+        }
+    }
+
+    // A byte behind the line. The lines of a listing always have room for it.
+    pub(crate) fn with_byte(mut self, b: u8) -> Line
+        ensures { λ r. ⌜ r ≡ withByte self b ⌝ }
+    {
+        let at = self.len;
+        if at < ROOM {
+            self.bytes[at] = b;
+            self.len = at + 1;
+        }
+        self
+    }
+
+    // The last digit of a number behind the line.
+    fn with_last_digit(self, n: u64) -> Line
+        ensures { λ r. ⌜ r ≡ withByte self (digitByte (n % 10)) ⌝ }
+    {
+        self.with_byte(b'0' + (n % 10) as u8)
+    }
+
+    // A number behind the line: its digits above the last, if there are any, and the last.
+    pub(crate) fn with_number(self, n: u64) -> Line
+        ensures { λ r. ⌜ r ≡ withText self (decimal n) ⌝ }
+    {
+        if n < 10 {
+            return self.with_last_digit(n);
+        }
+        self.with_number(n / 10).with_last_digit(n)
+    }
+
+    // A space and a number behind the line.
+    pub(crate) fn with_next(self, n: u64) -> Line
+        ensures { λ r. ⌜ r ≡ withText self (next n) ⌝ }
+    {
+        self.with_byte(SPACE).with_number(n)
+    }
+}

@@ -1,0 +1,39 @@
+-- What is known of a record that is whole. Assumes nothing.
+use mathlib.Core.Bool.{Bool, true, _&&_}
+use mathlib.Core.Path.{_≡_, sym, ap, _∙_}
+use mathlib.Core.List.{List}
+use Prim.Native.Nat.{ℕ, _+_, _-_, _≤_}
+use native.Mathlib.Omega.{arith}
+use borrow.Author.Tests.{leb-true}
+use lib.Dec.{eqb, leb, ltb}
+use lib.ListN.{length, take, drop}
+use Rattle.packets.specs.Numbers.{numberAt}
+use Rattle.recording.specs.Kinds.{payloadLength}
+use Rattle.recording.specs.Records.{mark, headBytes, longest, kindOf, saidLength, recordLength, isRecord, payloadOf}
+use Rattle.recording.proofs.KindLaws.{both, payload-most}
+
+module _ (held : List ℕ) where
+  -- a record has its head
+  pub record-head : headBytes ≤ recordLength held
+  unfolding recordLength
+  record-head = omega arith
+
+  -- and is never longer than the longest
+  pub record-most : recordLength held ≤ longest
+  unfolding recordLength
+  record-most = omega (arith, payload-most (kindOf held))
+
+  -- of a whole record every byte is there
+  pub record-whole : isRecord held ≡ true → recordLength held ≤ length held
+  unfolding isRecord
+  record-whole e =
+      let n : ℕ = payloadLength (kindOf held) in
+      let head : Bool = eqb (numberAt 2 held 0) mark && ltb 0 n && eqb (saidLength held) n in
+      leb-true (recordLength held) (length held) (both head (leb (recordLength held) (length held)) e .1)
+
+  -- the payload is what stands from the head to the record's end
+  pub payload-cut : (end : ℕ) → end ≡ recordLength held → take (end - headBytes) (drop headBytes held) ≡ payloadOf held
+  unfolding recordLength payloadOf
+  payload-cut end e =
+      let n : end - headBytes ≡ payloadLength (kindOf held) = omega arith in
+      ap (λ (m : ℕ). take m (drop headBytes held)) n

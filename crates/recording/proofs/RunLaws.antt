@@ -1,0 +1,89 @@
+-- A record that is run, and one that is not. Assumes nothing.
+use mathlib.Core.Bool.{Bool, true, false, cond}
+use mathlib.Core.Path.{_≡_, refl, sym, ap, _∙_}
+use mathlib.Core.List.{List}
+use Prim.Native.Nat.{ℕ, _≤_}
+use lib.Dec.{ltb}
+use lib.ListN.{length}
+use Rattle.replay.specs.Demand3.{Call, op, back}
+use Rattle.rules.specs.Rules.{Op}
+use Rattle.rulings.specs.Ruling.{refusedWith}
+use Rattle.rulings.specs.declared.ruling.Answer.{Answer}
+use Rattle.session.proofs.AfterLaws.{refused-bytes, refused-back}
+use Rattle.standing.specs.Told.{answerBy}
+use Rattle.standing.proofs.ToldLaws.{told-refused, told-whole}
+use Rattle.standing.specs.Standing.{answered, bytesLeft}
+use Rattle.recording.specs.Records.{kindOf, recordLength, isRecord, callOf}
+use Rattle.recording.specs.Running.{mostRecords, isRun, notRun, runWith, ranRecord, bytesAfterRecord}
+use Rattle.recording.specs.declared.running.Ran.{Ran}
+use Rattle.recording.proofs.KindLaws.{both}
+use Rattle.recording.proofs.FormLaws.{record-whole}
+use Rattle.recording.proofs.CallLaws.{Called}
+
+-- what a call answers that is refused
+plain : (bs : List ℕ) (c : Call Op) → (answered bs c .answer ≡ 0 → ⊥) → answered bs c ≡ refusedWith (answered bs c .answer)
+unfolding answerBy
+plain bs c h = sym (told-whole bs c) ∙ ap answerBy (told-refused c (answered bs c) h)
+
+-- and the bytes that it leaves
+same : (bs : List ℕ) (c : Call Op) → (answered bs c .answer ≡ 0 → ⊥) → bytesLeft bs c ≡ bs
+unfolding answered bytesLeft
+same bs (op o) h = refused-bytes bs o h
+same bs (back k) h = refused-back bs k h
+
+module _ (held : List ℕ) (before : ℕ) where
+  -- a record that is run is whole
+  pub run-record : isRun held before ≡ true → isRecord held ≡ true
+  unfolding isRun
+  run-record e = both (ltb before mostRecords) (isRecord held) e .1
+
+  pub run-whole : isRun held before ≡ true → recordLength held ≤ length held
+  run-whole e = record-whole held (run-record e)
+
+-- what running tells, where it is known whether the record is run
+abbrev ranIf : Bool → List ℕ → List ℕ → ℕ → Ran
+ranIf b bs held before = cond b (runWith before (kindOf held) (recordLength held) (answered bs (callOf held))) (notRun before)
+
+module _ (bs held : List ℕ) (before : ℕ) where
+  pub not-run : isRun held before ≡ false → (notRun before ≡ ranRecord bs held before) × (bs ≡ bytesAfterRecord bs held before)
+  unfolding ranRecord bytesAfterRecord
+  not-run e = (
+    sym (λ i. ranIf (e i) bs held before),
+    sym (λ i. cond (e i) (bytesLeft bs (callOf held)) bs),
+  )
+
+  -- so a record that is not run is told by the bytes that it used: none
+  pub not-run-used : isRun held before ≡ false → ranRecord bs held before .used ≡ 0
+  not-run-used e = ap (λ (r : Ran). r .used) (sym (not-run e .0))
+
+  pub is-run : {a : Answer} {after : List ℕ} → isRun held before ≡ true → Called bs (callOf held) a after
+      → (runWith before (kindOf held) (recordLength held) a ≡ ranRecord bs held before) × (after ≡ bytesAfterRecord bs held before)
+  unfolding ranRecord bytesAfterRecord
+  is-run e made = (
+    ap (runWith before (kindOf held) (recordLength held)) (made .0)
+        ∙ sym (λ i. ranIf (e i) bs held before),
+    made .1 ∙ sym (λ i. cond (e i) (bytesLeft bs (callOf held)) bs),
+  )
+
+  -- and one that is run by those that it used: the record's
+  pub run-used : isRun held before ≡ true → ranRecord bs held before .used ≡ recordLength held
+  run-used e = ap (λ (r : Ran). r .used) (sym (is-run e (refl, refl) .0))
+
+  -- EVERY REFUSAL has zeros for its three numbers
+  pub refusal-plain : (ranRecord bs held before .answer ≡ 0 → ⊥)
+      → ranRecord bs held before ≡ runWith before (ranRecord bs held before .kind) (ranRecord bs held before .used) (refusedWith (ranRecord bs held before .answer))
+  unfolding ranRecord
+  refusal-plain h = of (isRun held before) h
+    where
+      of : (b : Bool) → (ranIf b bs held before .answer ≡ 0 → ⊥) → ranIf b bs held before ≡ runWith before (ranIf b bs held before .kind) (ranIf b bs held before .used) (refusedWith (ranIf b bs held before .answer))
+      of true n = ap (runWith before (kindOf held) (recordLength held)) (plain bs (callOf held) n)
+      of false n = refl
+
+  -- and changes no byte
+  pub refusal-same : (ranRecord bs held before .answer ≡ 0 → ⊥) → bytesAfterRecord bs held before ≡ bs
+  unfolding ranRecord bytesAfterRecord
+  refusal-same h = of (isRun held before) h
+    where
+      of : (b : Bool) → (ranIf b bs held before .answer ≡ 0 → ⊥) → cond b (bytesLeft bs (callOf held)) bs ≡ bs
+      of true n = same bs (callOf held) n
+      of false n = refl

@@ -1,0 +1,20 @@
+-- `recording::records::record_length` meets its contract. Assumes nothing.
+use mathlib.Core.Path.{ap, _∙_}
+use Prim.Native.Nat.{ℕ, _+_}
+use native.Mathlib.Omega.{arith}
+use Rattle.recording.specs.Kinds.{payloadLength}
+use Rattle.recording.specs.Records.{headBytes, recordLength}
+use Rattle.recording.proofs.KindLaws.{payload-most}
+use borrow.Author.Needs.{needs}
+use Rattle.recording.proofs.records.record_length.Statement.{statement}
+use Rattle.recording.proofs.records.record_length.Tie as tie
+
+add-result : tie.Need-add-result
+add-result c = omega (arith, payload-most (c .before .kind-of .result), c .payload-length .ensures)
+
+returns : tie.Need-returns
+unfolding recordLength
+returns c = ap (λ (n : ℕ). headBytes + n) (c .payload-length .ensures ∙ ap payloadLength (c .before .kind-of .ensures))
+
+pub record-length-spec : {M : Type 1} → statement M
+record-length-spec = tie.close (tie.spec (λ c κs. search needs) (λ c κs. search needs) add-result returns)

@@ -1,0 +1,12 @@
+-- `recording::running::Ran::not_run` meets its contract. Assumes nothing.
+use mathlib.Core.Path.{ap, _∙_}
+use Rattle.recording.specs.Running.{runWith}
+use borrow.Author.Needs.{needs}
+use Rattle.recording.proofs.running.Ran.not_run.Statement.{statement}
+use Rattle.recording.proofs.running.Ran.not_run.Tie as tie
+
+returns : tie.Need-returns
+returns c = c .run-with .ensures ∙ ap (runWith (c .before .before .args .before) 0 0) (c .before .refused .ensures)
+
+pub not-run-spec : {M : Type 1} → statement M
+not-run-spec = tie.close (tie.spec (λ c κs. search needs) (λ c κs. search needs) returns)

@@ -1,0 +1,11 @@
+-- `recording::running::Ran::run_with` meets its contract. Assumes nothing.
+use mathlib.Core.Path.{refl}
+use borrow.Author.Needs.{needs}
+use Rattle.recording.proofs.running.Ran.run_with.Statement.{statement}
+use Rattle.recording.proofs.running.Ran.run_with.Tie as tie
+
+returns : tie.Need-returns
+returns c = refl
+
+pub run-with-spec : {M : Type 1} → statement M
+run-with-spec = tie.close (tie.spec (λ c. search needs) returns)

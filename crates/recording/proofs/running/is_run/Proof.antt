@@ -1,0 +1,18 @@
+-- `recording::running::is_run` meets its contract. Assumes nothing.
+use mathlib.Core.Path.{_≡_}
+use borrow.Author.Tests.{lt-ltb, le-ltb}
+use Rattle.recording.specs.Running.{isRun, mostRecords}
+use borrow.Author.Needs.{needs}
+use Rattle.recording.proofs.running.is_run.Statement.{statement}
+use Rattle.recording.proofs.running.is_run.Tie as tie
+
+returns : tie.Need-returns
+unfolding isRun
+returns c = simp (lt-ltb (c .before .before .before .args .before) mostRecords (c .before .if1 .taken)) (c .is-record .ensures)
+
+returns-2 : tie.Need-returns-2
+unfolding isRun
+returns-2 c = simp (le-ltb (c .before .before .args .before) mostRecords (c .if1 .left))
+
+pub is-run-spec : {M : Type 1} → statement M
+is-run-spec = tie.close (tie.spec (λ c κs. search needs) returns returns-2)

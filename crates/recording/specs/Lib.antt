@@ -1,0 +1,5 @@
+pub mod Kinds
+pub mod Records
+pub mod Running
+pub mod Listing
+pub mod Recorded

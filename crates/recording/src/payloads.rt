@@ -1,0 +1,31 @@
+// What stands in a record's payload. Here alone a number becomes a loco or a ticket.
+use packets::numbers;
+use trains::kinds::Loco;
+use trains::kinds::Ticket;
+ghost use mathlib.Core.Path.{_≡_};
+ghost use Rattle.recording.specs.Kinds.{locoAt, ticketAt, flagsIn};
+
+// Where the flags begin, behind loco and ticket.
+const FLAGS: usize = 6;
+
+pub(crate) fn loco_at(payload: &[u8], i: usize) -> Loco
+    ensures { λ r. ⌜ r ≡ locoAt (now (payload .entry)) i ⌝ }
+{
+    Loco(numbers::word_at(payload, i))
+}
+
+pub(crate) fn ticket_at(payload: &[u8], i: usize) -> Ticket
+    ensures { λ r. ⌜ r ≡ ticketAt (now (payload .entry)) i ⌝ }
+{
+    Ticket(numbers::half_at(payload, i))
+}
+
+pub(crate) fn flags_in(payload: &[u8]) -> &[u8]
+    ensures { λ r. ⌜ now r ≡ flagsIn (now (payload .entry)) ⌝ }
+{
+    if payload.len() < FLAGS {
+        &payload[..0]
+    } else {
+        &payload[FLAGS..]
+    }
+}
