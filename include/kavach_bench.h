@@ -4,8 +4,9 @@
  * memory of its own, allocates nothing, opens nothing and has no global state: all that lasts is in the session that the host
  * lends. So calls on different sessions may run at the same time; calls on one session may not.
  *
- * ANSWERS. Every answer begins with the field `answer`: 0 (KB_ACCEPTED), or the number of the one reason for a refusal
- * (enum kb_reason). A refusal gives zeros in all other fields and CHANGES NOTHING: neither the session nor any lent buffer.
+ * ANSWERS. Every answer has the field `answer`: 0 (KB_ACCEPTED), or the number of the one reason for a refusal (enum kb_reason).
+ * A refusal gives zeros in all other fields (kb_run_record says which it keeps) and CHANGES NOTHING: neither the session nor any
+ * lent buffer.
  * Where several reasons hold, the answer is the first in the order in which the call lists them here.
  * Numbers are 32 bits wide and may be any: what is out of range is refused, never cut. A ticket of 65,537 is not ticket 1.
  *
@@ -15,7 +16,7 @@
  *
  * A SESSION is KB_SESSION_SIZE bytes (kb_session, or any buffer of that length), made by kb_start and changed by the other
  * calls alone. It has no pointers in it: it may be copied, saved and moved. A buffer of any other length is refused with 34 by
- * every call on a session, before all other reasons. Bytes that these calls did not make do no harm (every call still ends,
+ * every call on a session, before all other reasons but 24. Bytes that these calls did not make do no harm (every call still ends,
  * touches nothing else, and changes nothing on a refusal), but what they answer has no meaning.
  *
  * NAMES. `loco` is a loco number, 1 to 131,070; `ticket` is what kb_request granted, 1 to 65,535. Every later call on a train
@@ -41,7 +42,8 @@ enum kb_reason {
     /* Sub-packets. */
     KB_SHORT = 1,       /* fewer than 2 bytes, or fewer than the length says; or the output is too small */
     KB_TYPE = 2,        /* type 8 to 15; for gates: a type that is not 3 */
-    KB_LENGTH = 3,      /* length below 2; for gates: not the length for the count; writing: not 9 bytes a gate, or over 28 gates */
+    KB_LENGTH = 3,      /* length below 2; for gates: not the length for the count; writing: not 9 bytes a gate, or over 28
+                           gates */
     KB_FIELD = 4,       /* a gate's field whose value is not allowed or, writing, too large for its width */
     KB_PADDING = 5,     /* the bits that fill up the last byte are not zero */
     /* Sessions, the mode step and the frame age. */
@@ -202,6 +204,26 @@ kb_answer kb_clear(uint8_t *session, size_t session_len, uint32_t loco, uint32_t
  * stays, so no ticket is granted twice. k of 0 is accepted. Numbers: the entries kept then, 0, 0.
  * Refused: 22 k above the entries kept. */
 kb_answer kb_step_back(uint8_t *session, size_t session_len, uint32_t k);
+
+typedef struct kb_record_answer {
+    uint64_t number; /* of the record: `before` and one */
+    uint32_t kind;   /* 1 to 9, or 0 where the answer is 24 */
+    uint32_t answer;
+    uint32_t first;
+    uint32_t second;
+    uint32_t third;
+    uint32_t used; /* bytes of the record, with its header; 0 where the answer is 24 */
+} kb_record_answer;
+
+/* Runs the first record of `held`, the bytes of a recording that are at hand, and ignores what follows it; `before` records came
+ * before it. The longest record has 101 bytes. To play a recording, call it again behind the bytes used, until the answer is 24 or
+ * nothing is left. The kinds are the nine operations in the order above, 1 kb_request to 9 kb_step_back; a record is 4B 56, the
+ * kind and the payload's length (a byte each) and the payload: the operation's numbers, high byte first, locos and locations in 4
+ * bytes, tickets, byte counts and k in 2, the grid in 1, and the 91 flags.
+ * Numbers: those of the operation. `number`, `kind` and `used` are told of a record that is refused, too.
+ * Refused: 24 wrong mark, kind or length, or a cut record (also: nothing held, or 4,294,967,295 records before); 34; then as the
+ * operation. */
+kb_record_answer kb_run_record(uint8_t *session, size_t session_len, const uint8_t *held, size_t held_len, uint32_t before);
 
 /* ---- Questions: they change nothing ---- */
 

@@ -18,6 +18,7 @@ enum kind {
     START, REQUEST, RELEASE, FLAGS, POSITION, AUTHORITY, DANGER, SOS, CLEAR, STEP_BACK,
     COUNTER, KEPT, IS_TAKEN, END, TRAIN,
     FRAME, READ_GATES, WRITE_GATES, FRAME_AGE, NEXT_MODE, SESSION_SIZE,
+    RUN_RECORD,
     FILL = 30, /* the session's bytes are those given */
     POKE = 31  /* byte n[0] of the session is n[1] */
 };
@@ -130,6 +131,18 @@ static void put_train(kb_train_answer a)
     }
 }
 
+static void put_record(kb_record_answer a)
+{
+    reply.words[0] = a.answer;
+    reply.words[1] = a.first;
+    reply.words[2] = a.second;
+    reply.words[3] = a.third;
+    reply.words[4] = a.kind;
+    reply.words[5] = a.used;
+    reply.words[6] = (uint32_t)a.number;
+    reply.words[7] = (uint32_t)(a.number >> 32);
+}
+
 static void operate(const struct call *c, uint8_t *s, const uint8_t *given)
 {
     const uint32_t *n = c->n;
@@ -149,6 +162,7 @@ static void operate(const struct call *c, uint8_t *s, const uint8_t *given)
     case KEPT: put_answer(kb_kept(s, len)); break;
     case IS_TAKEN: put_answer(kb_is_taken(s, len, n[0])); break;
     case END: put_answer(kb_end(s, len, n[0], n[1])); break;
+    case RUN_RECORD: put_record(kb_run_record(s, len, given, c->given, n[0])); break;
     case TRAIN: put_train(kb_train(s, len, n[0])); break;
     default: stop("no such call");
     }
@@ -208,7 +222,7 @@ int main(void)
         run(&c, given, output);
         if (c.watch)
             reply.changed = changed(c.lent);
-        stale = c.watch ? (int)reply.changed : stale || c.kind <= STEP_BACK || c.kind >= FILL;
+        stale = c.watch ? (int)reply.changed : stale || c.kind <= STEP_BACK || c.kind >= RUN_RECORD;
         if (memcmp(as_given, given, c.given) != 0)
             reply.changed |= 2;
         fwrite(&reply, sizeof reply, 1, stdout);

@@ -3,6 +3,7 @@
 use crate::expected::{Bench, Expected};
 use crate::packets;
 use crate::random::Random;
+use crate::records;
 use crate::wire::{Call, Kind, LONGER, SESSION};
 use bench_model::modes::{FLAGS, TRANSITIONS};
 use bench_model::session::{Pair, Session, NONE, ROWS, SLOTS};
@@ -86,8 +87,15 @@ impl Calls {
     }
 
     fn remember(&mut self, call: &Call, expected: &Expected) {
-        if let (Kind::Request, Expected::Known { words: [0, ticket, ..], .. }) = (call.kind, expected) {
-            self.granted.push(Pair { loco: call.n[0], ticket: *ticket });
+        let Expected::Known { words: [0, ticket, ..], .. } = expected else {
+            return;
+        };
+        match call.kind {
+            Kind::Request => self.granted.push(Pair { loco: call.n[0], ticket: *ticket }),
+            Kind::RunRecord if records::is_request(call) => {
+                self.granted.push(Pair { loco: records::loco(call), ticket: *ticket })
+            }
+            _ => {}
         }
     }
 
@@ -109,6 +117,9 @@ impl Calls {
             self.sweep();
         }
         let mut call = self.on_session();
+        if self.random.chance(15) {
+            call = records::call(&mut self.random, &call);
+        }
         if self.random.chance(2) {
             call.lent = self.other_length();
         }

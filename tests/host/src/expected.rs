@@ -1,11 +1,13 @@
 //! What the model says of each call: the words of the answer, the output afterwards, and whether the session changes.
 
 use crate::wire::{Call, Kind, Reply, PATTERN, SESSION, WORDS};
+use bench_model::recording::{run_first, Run};
 use bench_model::session::{Answer, Pair, Session, NONE};
 use bench_model::train::Train;
 use bench_model::{clock, modes, packets};
 
 const WRONG_LENGTH: u32 = 34;
+const MOST_RECORDS: u32 = u32::MAX;
 
 #[derive(Clone, Debug)]
 pub enum Expected {
@@ -60,7 +62,9 @@ impl Expected {
 
 fn foreign_fault(call: &Call, reply: &Reply) -> Option<String> {
     let refused = reply.words[0] != 0;
-    if refused && reply.words[1..].iter().any(|&word| word != 0) {
+    // What is told of a record besides its three numbers is told of a refused one, too.
+    let zeros = if call.kind == Kind::RunRecord { &reply.words[1..4] } else { &reply.words[1..] };
+    if refused && zeros.iter().any(|&word| word != 0) {
         return Some("a refusal gives zeros".into());
     }
     if reply.changed != 0 && (refused || !call.kind.may_change()) {
@@ -85,6 +89,7 @@ impl Bench {
             }
             Kind::SessionSize => Expected::words(&[SESSION]),
             kind if !kind.takes_session() => without_session(call),
+            Kind::RunRecord if !self.foreign || call.lent != SESSION => self.run_record(call),
             _ if call.lent != SESSION => Expected::words(&[WRONG_LENGTH]),
             Kind::Start => {
                 self.session = Session::new();
@@ -95,6 +100,23 @@ impl Bench {
             Kind::Train => Expected::words(&train_words(self.session.train(call.n[0]))),
             _ => self.operate(call),
         }
+    }
+
+    fn run_record(&mut self, call: &Call) -> Expected {
+        let before = call.n[0];
+        let held = if before < MOST_RECORDS { &call.given[..] } else { &[] };
+        let run = if call.lent == SESSION {
+            run_first(&mut self.session, held)
+        } else {
+            // The form is judged first; a session of another length is then refused.
+            let run = run_first(&mut Session::new(), held);
+            let answer = if run.kind == 0 { run.answer } else { Err(WRONG_LENGTH).into() };
+            Run { answer, ..run }
+        };
+        let Answer { answer, numbers: [first, second, third] } = run.answer;
+        let number = u64::from(before) + 1;
+        let told = [run.kind, run.used as u32, number as u32, (number >> 32) as u32];
+        Expected::words(&[answer, first, second, third, told[0], told[1], told[2], told[3]])
     }
 
     fn operate(&mut self, call: &Call) -> Expected {

@@ -8,6 +8,7 @@ mod calls;
 mod expected;
 mod packets;
 mod random;
+mod records;
 mod wire;
 
 use calls::Calls;
@@ -25,7 +26,7 @@ const WATCHED: usize = 10;
 type Batch = Vec<(Call, Expected)>;
 
 /// Every answer number that a call can give. A run of a million calls or more must have seen each.
-const ANSWERS: [u32; 21] = [0, 1, 2, 3, 4, 5, 10, 11, 12, 13, 14, 15, 16, 17, 18, 19, 20, 21, 22, 23, 34];
+const ANSWERS: [u32; 22] = [0, 1, 2, 3, 4, 5, 10, 11, 12, 13, 14, 15, 16, 17, 18, 19, 20, 21, 22, 23, 24, 34];
 
 /// Makes the calls and sends them, each batch first to whoever compares.
 fn send(seed: u64, count: u64, mut caller: ChildStdin, compared: SyncSender<Batch>) {

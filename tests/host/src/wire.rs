@@ -34,6 +34,7 @@ pub enum Kind {
     FrameAge,
     NextMode,
     SessionSize,
+    RunRecord,
     /// No call: the session's bytes become those given.
     Fill = 30,
     /// No call: one byte of the session becomes another.
@@ -46,11 +47,11 @@ impl Kind {
     }
 
     pub fn takes_session(self) -> bool {
-        (self as u32) <= Kind::Train as u32
+        (self as u32) <= Kind::Train as u32 || self == Kind::RunRecord
     }
 
     pub fn may_change(self) -> bool {
-        (self as u32) <= Kind::StepBack as u32
+        (self as u32) <= Kind::StepBack as u32 || self == Kind::RunRecord
     }
 }
 
