@@ -138,24 +138,23 @@ impl Calls {
         }
     }
 
-    /// Begins another session.
+    /// Asks the session that ends every question, and begins another.
     fn begin(&mut self) -> Call {
+        self.sweep();
         self.plan = self.random.pick(&PLANS);
         self.left = self.random.from(1, 2_000);
         self.granted.clear();
-        self.sweep();
-        if self.plan == Plan::Foreign {
-            let bytes = self.foreign_bytes();
-            return Call::new(Kind::Fill, &[]).with(bytes);
-        }
-        let start = Call::new(Kind::Start, &[]);
+        let mut first = Call::new(Kind::Start, &[]);
         if self.random.chance(10) {
-            let mut refused = start.clone();
-            refused.lent = self.other_length();
-            self.next.push_front(start);
-            return refused;
+            first.lent = self.other_length();
+            self.next.push_back(first.clone());
+            first.lent = SESSION;
         }
-        start
+        if self.plan == Plan::Foreign {
+            first = Call::new(Kind::Fill, &[]).with(self.foreign_bytes());
+        }
+        self.next.push_back(first);
+        self.next.pop_front().expect("the first question")
     }
 
     /// Random bytes, or bytes of which few are not zero.

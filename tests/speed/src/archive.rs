@@ -30,6 +30,16 @@ pub struct Answer {
     pub third: u32,
 }
 
+#[repr(C)]
+#[derive(Clone, Copy, Default)]
+pub struct RecordAnswer {
+    pub number: u64,
+    pub kind: u32,
+    pub answer: u32,
+    pub numbers: [u32; 3],
+    pub used: u32,
+}
+
 extern "C" {
     fn kb_read_gates(
         to: *mut GatesAnswer,
@@ -57,6 +67,14 @@ extern "C" {
     fn kb_sos(session: *mut u8, len: usize, loco2: u32, ticket2: u32, loco1: u32, ticket1: u32, grid: u32) -> Answer;
     fn kb_clear(session: *mut u8, len: usize, loco: u32, ticket: u32, other: u32) -> Answer;
     fn kb_step_back(session: *mut u8, len: usize, k: u32) -> Answer;
+    fn kb_run_record(
+        to: *mut RecordAnswer,
+        session: *mut u8,
+        len: usize,
+        held: *const u8,
+        held_len: usize,
+        before: u32,
+    ) -> *mut RecordAnswer;
     fn kb_end(session: *const u8, len: usize, loco: u32, ticket: u32) -> Answer;
 }
 
@@ -127,6 +145,12 @@ impl Session {
 
     pub fn back(&mut self, k: u32) -> Answer {
         unsafe { kb_step_back(self.0.as_mut_ptr(), SESSION, k) }
+    }
+
+    pub fn run_record(&mut self, held: &[u8], before: u32) -> RecordAnswer {
+        let mut to = RecordAnswer::default();
+        unsafe { kb_run_record(&mut to, self.0.as_mut_ptr(), SESSION, held.as_ptr(), held.len(), before) };
+        to
     }
 
     pub fn end(&self, name: Pair) -> Answer {

@@ -1,18 +1,21 @@
 //! Times the archive's functions beside the independent model's.
 //!
-//!     bench_speed table [COUNTS]           every case: nanoseconds of both, and the ratio; COUNTS is a file of `CASE OURS MODEL`
-//!                                          lines with instruction counts
-//!     bench_speed cases                    how many cases there are
-//!     bench_speed only CASE SIDE ROUNDS    nothing but rounds of one case (0 ..) with one side (ours, model)
-//!     bench_speed before CASE SIDE ROUNDS  nothing but what comes before each of those rounds
+//!     bench_speed table RECORDING [COUNTS]  every case: nanoseconds of both, and the ratio; COUNTS is a file of `CASE OURS MODEL`
+//!                                           lines with instruction counts
+//!     bench_speed cases                     how many cases there are
+//!     bench_speed only CASE SIDE ROUNDS     nothing but rounds of one case (0 ..) with one side (ours, model)
+//!     bench_speed before CASE SIDE ROUNDS   nothing but what comes before each of those rounds
 
 mod archive;
 mod cases;
+mod recordings;
 
 use cases::{Case, Rounds};
 use std::time::Instant;
 
 const SAMPLES: usize = 101;
+/// How often a whole recording is played.
+const PLAYS: usize = 5;
 /// A sample takes about this long: short enough that few are interrupted, and the median is of none of these.
 const SAMPLE_NANOSECONDS: f64 = 300_000.0;
 
@@ -21,11 +24,14 @@ fn since(start: Instant, rounds: u32) -> f64 {
     start.elapsed().as_nanos() as f64 / f64::from(rounds)
 }
 
+fn median(mut samples: Vec<f64>) -> f64 {
+    samples.sort_by(f64::total_cmp);
+    samples[samples.len() / 2]
+}
+
 /// What it takes to look at the clock.
 fn clock_nanoseconds() -> f64 {
-    let mut looks: Vec<f64> = (0..SAMPLES).map(|_| since(Instant::now(), 1)).collect();
-    looks.sort_by(f64::total_cmp);
-    looks[SAMPLES / 2]
+    median((0..SAMPLES).map(|_| since(Instant::now(), 1)).collect())
 }
 
 /// Rounds that need nothing before them are timed as one; any other by itself.
@@ -57,10 +63,21 @@ fn medians(case: &Case) -> [f64; 2] {
             samples[side].push(nanoseconds(timed, rounds));
         }
     }
-    samples.map(|mut taken| {
-        taken.sort_by(f64::total_cmp);
-        taken[SAMPLES / 2]
-    })
+    samples.map(median)
+}
+
+/// The median of some whole plays of a recording, in nanoseconds for each record.
+fn played(recording: &[u8]) -> (u32, [f64; 2]) {
+    let mut samples = [Vec::new(), Vec::new()];
+    let whole = recordings::model(recording);
+    for _ in 0..PLAYS {
+        for (side, play) in [recordings::ours, recordings::model].iter().enumerate() {
+            let start = Instant::now();
+            assert_eq!(play(recording), whole);
+            samples[side].push(since(start, whole.records));
+        }
+    }
+    (whole.records, samples.map(median))
 }
 
 fn ratio(pair: [f64; 2]) -> f64 {
@@ -77,7 +94,8 @@ fn counts(path: &str) -> Vec<[f64; 2]> {
     text.lines().map(line).collect()
 }
 
-fn table(counted: Option<Vec<[f64; 2]>>) {
+fn table(recording: &str, counted: Option<Vec<[f64; 2]>>) {
+    let recording = std::fs::read(recording).expect("the recording");
     println!("| Call | ours, ns | model, ns | ratio | ours, instructions | model, instructions | ratio |");
     println!("|---|---:|---:|---:|---:|---:|---:|");
     for (place, case) in cases::all().iter().enumerate() {
@@ -88,6 +106,13 @@ fn table(counted: Option<Vec<[f64; 2]>>) {
         });
         println!("| {} | {:.0} | {:.0} | {:.1} | {counts} |", case.name, time[0], time[1], ratio(time));
     }
+    let (records, time) = played(&recording);
+    println!(
+        "| a record of a recording of {records} | {:.0} | {:.0} | {:.1} | - | - | - |",
+        time[0],
+        time[1],
+        ratio(time)
+    );
 }
 
 /// Rounds of one case, or only what comes before each.
@@ -108,12 +133,14 @@ fn main() {
     let words: Vec<String> = std::env::args().skip(1).collect();
     let words: Vec<&str> = words.iter().map(String::as_str).collect();
     match words[..] {
-        ["table"] => table(None),
-        ["table", path] => table(Some(counts(path))),
+        ["table", recording] => table(recording, None),
+        ["table", recording, path] => table(recording, Some(counts(path))),
         ["cases"] => println!("{}", cases::all().len()),
         [what @ ("only" | "before"), place, side, rounds] => {
             only(place.parse().expect("a place"), side, what == "before", rounds.parse().expect("rounds"))
         }
-        _ => eprintln!("usage: bench_speed table [COUNTS] | cases | only CASE SIDE ROUNDS | before CASE SIDE ROUNDS"),
+        _ => eprintln!(
+            "usage: bench_speed table RECORDING [COUNTS] | cases | only CASE SIDE ROUNDS | before CASE SIDE ROUNDS"
+        ),
     }
 }
