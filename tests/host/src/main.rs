@@ -74,7 +74,8 @@ fn compare(mut caller: impl Read, batches: Receiver<Batch>) -> Result<Seen, Stri
         let mut output = vec![0; call.room as usize];
         let read = caller.read_exact(&mut head).and_then(|()| caller.read_exact(&mut output));
         let place = seen.calls + 1;
-        read.map_err(|error| format!("call {place}: no answer ({error}): {call:?}"))?;
+        // Answers that the caller had not yet handed on are lost with it.
+        read.map_err(|error| format!("no answer from call {place} on ({error}): {call:?}"))?;
         let reply = Reply::of(&head, output);
         if let Some(fault) = expected.fault(&call, &reply) {
             return Err(format!("call {place}: {call:?}\nanswers {reply:?}\n{fault}"));
