@@ -1,0 +1,14 @@
+// One record of a recording run on a lent session, under its name in C.
+use recording::running;
+use recording::running::Ran;
+ghost use mathlib.Core.Path.{_≡_};
+ghost use Rattle.recording.specs.Running.{ranRecord, bytesAfterRecord};
+
+// `before` is how many records came before this one.
+#[no_mangle]
+pub extern "C" fn kb_run_record(session: &mut [u8], held: &[u8], before: u32) -> Ran
+    ensures { λ r. ⌜ r ≡ ranRecord (now (session .entry)) (now (held .entry)) before ⌝ }
+    ensures { λ _. ⌜ now (session .exit) ≡ bytesAfterRecord (now (session .entry)) (now (held .entry)) before ⌝ }
+{
+    running::run(session, held, before)
+}

@@ -1,0 +1,84 @@
+/* A small host: two trains are registered and move, one gets an authority, an SOS limits it, and a step back takes the SOS
+ * back. README says how to build and run it. */
+#include "../include/kavach_bench.h"
+#include <stdio.h>
+#include <stdlib.h>
+#include <string.h>
+
+static kb_session bench;
+
+/* Prints an answer, and gives it on. */
+static kb_answer told(const char *what, kb_answer given)
+{
+    printf("%-34s answer %2u: %u %u %u\n", what, (unsigned)given.answer, (unsigned)given.first, (unsigned)given.second,
+        (unsigned)given.third);
+    return given;
+}
+
+/* Ends the host where a call that must be accepted is not. */
+static kb_answer accepted(const char *what, kb_answer given)
+{
+    if (told(what, given).answer != KB_ACCEPTED)
+        exit(EXIT_FAILURE);
+    return given;
+}
+
+/* Sets one condition and steps the train's mode. */
+static void step(const char *what, uint32_t loco, uint32_t ticket, unsigned condition)
+{
+    uint8_t flags[KB_FLAGS];
+    memset(flags, 0, sizeof flags);
+    flags[condition - 1] = 1;
+    accepted(what, kb_flags(KB_LEND(&bench), loco, ticket, flags, sizeof flags));
+}
+
+static void print_trains(void)
+{
+    uint32_t row;
+    int i;
+    for (row = 0; row < KB_ROWS; row++) {
+        kb_train_answer t = kb_train(KB_LEND(&bench), row);
+        if (t.loco == 0)
+            continue;
+        printf("  loco %u, ticket %u, mode %u, slots %u to %u", (unsigned)t.loco, (unsigned)t.ticket, (unsigned)t.mode,
+            (unsigned)t.start, (unsigned)(t.start + t.slots - 1));
+        if (t.front != KB_NONE)
+            printf(", at %u to %u", (unsigned)t.rear, (unsigned)t.front);
+        for (i = 0; i < 4; i++)
+            if (t.orders[i].ticket != 0 && t.orders[i].limit != KB_NONE)
+                printf(", limited to %u for ticket %u", (unsigned)t.orders[i].limit, (unsigned)t.orders[i].ticket);
+        printf("\n");
+    }
+}
+
+int main(void)
+{
+    /* One gate: 650 m, number 12, suffix a, manned, class B1, whistling, type 0. */
+    static const uint8_t packet[] = {0x30, 0xE1, 0x05, 0x14, 0x06, 0x12, 0x80};
+    uint8_t gates[KB_MOST_GATES * KB_GATE_SIZE];
+    kb_gates_answer read = kb_read_gates(packet, sizeof packet, gates, sizeof gates);
+    uint32_t rear, ahead;
+
+    printf("gates %u, the first at %u m\n", (unsigned)read.gates, (unsigned)(gates[0] * 256 + gates[1]));
+    printf("frame age %u\n", (unsigned)kb_frame_age(20, 11).age);
+
+    accepted("start", kb_start(KB_LEND(&bench)));
+    rear = accepted("loco 7 asks for 100 bytes", kb_request(KB_LEND(&bench), 7, 100)).first;
+    ahead = accepted("loco 8 asks for 54 bytes", kb_request(KB_LEND(&bench), 8, 54)).first;
+    told("loco 7 asks again", kb_request(KB_LEND(&bench), 7, 20));
+    step("loco 7 to OS (64)", 7, rear, 64);
+    step("loco 8 to OS (64)", 8, ahead, 64);
+    accepted("loco 7 stands at 4000", kb_position(KB_LEND(&bench), 7, rear, 4000, 3800));
+    accepted("loco 8 stands at 6300", kb_position(KB_LEND(&bench), 8, ahead, 6300, 6100));
+    accepted("loco 7 may go to 9000", kb_authority(KB_LEND(&bench), 7, rear, 9000));
+    accepted("signal at danger at 7500", kb_danger(KB_LEND(&bench), 7, rear, 7500));
+    accepted("SOS, rear end: 7 behind 8", kb_sos(KB_LEND(&bench), 7, rear, 8, ahead, 1));
+    accepted("end of loco 7", kb_end(KB_LEND(&bench), 7, rear));
+    print_trains();
+    accepted("step back by one", kb_step_back(KB_LEND(&bench), 1));
+    accepted("end of loco 7", kb_end(KB_LEND(&bench), 7, rear));
+    told("a stale ticket releases nothing", kb_release(KB_LEND(&bench), 8, ahead + 1));
+    accepted("loco 8 is released", kb_release(KB_LEND(&bench), 8, ahead));
+    print_trains();
+    return EXIT_SUCCESS;
+}

@@ -1,0 +1,271 @@
+/* The radio bench for a host in C or C++: this page is the manual.
+ *
+ * THE WAY IT WORKS. The host lends numbers and byte buffers, and each call gives an answer by value. The library keeps no
+ * memory of its own, allocates nothing, opens nothing and has no global state: all that lasts is in the session that the host
+ * lends. So calls on different sessions may run at the same time; calls on one session may not.
+ *
+ * ANSWERS. Every answer has the field `answer`: 0 (KB_ACCEPTED), or the number of the one reason for a refusal (enum kb_reason).
+ * A refusal gives zeros in all other fields (kb_run_record says which it keeps) and CHANGES NOTHING: neither the session nor any
+ * lent buffer.
+ * Where several reasons hold, the answer is the first in the order in which the call lists them here.
+ * Numbers are 32 bits wide and may be any: what is out of range is refused, never cut. A ticket of 65,537 is not ticket 1.
+ *
+ * BUFFERS. A buffer is a pointer and its length in bytes. The pointer must not be NULL, not even with a length of 0, and that
+ * many bytes must be there: a length that lies is the one thing that the library cannot see. A buffer that a call changes must
+ * not overlap another buffer of the same call. Nothing before a buffer's start or past its end is read or written.
+ *
+ * A SESSION is KB_SESSION_SIZE bytes (kb_session, or any buffer of that length), made by kb_start and changed by the other
+ * calls alone. It has no pointers in it: it may be copied, saved and moved. A buffer of any other length is refused with 34 by
+ * every call on a session, before all other reasons but 24. Bytes that these calls did not make do no harm (every call still ends,
+ * touches nothing else, and changes nothing on a refusal), but what they answer has no meaning.
+ *
+ * NAMES. `loco` is a loco number, 1 to 131,070; `ticket` is what kb_request granted, 1 to 65,535. Every later call on a train
+ * names both. Locations are whole metres, 0 to 524,287, rising ahead. Modes: 1 SB, 2 SR, 3 LS, 4 FS, 5 OV, 6 OS, 7 TR, 8 PT,
+ * 9 RV, 10 SH, 11 NL, 12 SF, 13 IS.
+ *
+ * LINKING. `rt staticlib host` writes target/staticlib/libhost.a, for x86-64 Linux. examples/host.c is a whole small host.
+ * The library approves nothing: no equipment, no line, no train.
+ */
+#ifndef KAVACH_BENCH_H
+#define KAVACH_BENCH_H
+
+#include <stddef.h>
+#include <stdint.h>
+
+#ifdef __cplusplus
+extern "C" {
+#endif
+
+/* The numbers that `answer` may be. One number may stand for several reasons; the call tells them apart. */
+enum kb_reason {
+    KB_ACCEPTED = 0,
+    /* Sub-packets. */
+    KB_SHORT = 1,       /* fewer than 2 bytes, or fewer than the length says; or the output is too small */
+    KB_TYPE = 2,        /* type 8 to 15; for gates: a type that is not 3 */
+    KB_LENGTH = 3,      /* length below 2; for gates: not the length for the count; writing: not 9 bytes a gate, or over 28
+                           gates */
+    KB_FIELD = 4,       /* a gate's field whose value is not allowed or, writing, too large for its width */
+    KB_PADDING = 5,     /* the bits that fill up the last byte are not zero */
+    /* Sessions, the mode step and the frame age. */
+    KB_LOCO = 10,       /* a loco number that is not 1 to 131,070 */
+    KB_BYTES = 11,      /* a request for other than 1 to 324 bytes */
+    KB_REGISTERED = 12, /* the loco is registered already: use its ticket, or release it first */
+    KB_FULL = 13,       /* 24 trains are registered */
+    KB_NO_TICKET = 14,  /* the ticket counter is at 65,535; a step back gives none back, so start a new session */
+    KB_NO_RUN = 15,     /* no free run of slots is long enough */
+    KB_NO_TRAIN = 16,   /* no live train has this loco and ticket together */
+    KB_RANGE = 17,      /* a flag, mode, location, frame or grid out of range; flags not 91 bytes; rear above front; station
+                           frame below the onboard one */
+    KB_NO_POSITION = 18, /* the order needs a position that was never reported */
+    KB_NO_CLASS = 19,   /* a train of the SOS is in a mode without a row class, or the grid has no order for L2's class */
+    KB_NO_PLACE = 20,   /* a train holds four orders already, none of them under the other's ticket */
+    KB_NO_ORDER = 21,   /* the train has no order under that ticket */
+    KB_TOO_FAR = 22,    /* a step back by more than the entries kept */
+    KB_SAME_TRAIN = 23, /* both trains of an SOS are the same */
+    KB_RECORD = 24,     /* recordings: wrong mark, kind or length, or a cut record */
+    KB_SESSION = 34     /* the lent session has another length than KB_SESSION_SIZE */
+};
+
+/* Stands for no authority and no signal at danger, both ways; and in a kb_train for no position, and for an order's limit
+ * where the order is bare. */
+#define KB_NONE UINT32_C(4294967295)
+
+/* The bytes of a session; kb_session_size() says the same at run time. */
+#define KB_SESSION_SIZE 24704
+
+typedef struct kb_session {
+    uint8_t bytes[KB_SESSION_SIZE];
+} kb_session;
+
+/* The two arguments that lend a kb_session, given its address: kb_start(KB_LEND(&mine)). */
+#define KB_LEND(session) (session)->bytes, sizeof (session)->bytes
+
+/* The rows of the register, the slots, the flags of a mode step, the bytes of a gate outside its sub-packet, the most gates of
+ * a sub-packet, and its bytes then. */
+#define KB_ROWS 24
+#define KB_SLOTS 44
+#define KB_FLAGS 91
+#define KB_GATE_SIZE 9
+#define KB_MOST_GATES 28
+#define KB_PACKET_SIZE 125
+
+/* What most calls answer; each call says what its three numbers are. */
+typedef struct kb_answer {
+    uint32_t answer;
+    uint32_t first;
+    uint32_t second;
+    uint32_t third;
+} kb_answer;
+
+/* ---- Without a session ---- */
+
+typedef struct kb_frame_answer {
+    uint32_t answer;
+    size_t offset; /* of the payload within the lent bytes: 0 */
+    size_t length; /* the payload's bytes: the whole sub-packet, header included */
+} kb_frame_answer;
+
+/* Frames the first sub-packet of `bytes`, of any type, and ignores what follows it.
+ * Refused: 1 fewer than 2 bytes; 2 type 8 to 15; 3 length below 2; 1 fewer bytes than the length says. Changes nothing. */
+kb_frame_answer kb_frame(const uint8_t *bytes, size_t bytes_len);
+
+typedef struct kb_gates_answer {
+    uint32_t answer;
+    size_t gates; /* gates read or written */
+    size_t bytes; /* bytes of the sub-packet that was read or written */
+} kb_gates_answer;
+
+/* Reads the gate sub-packet that `bytes` begins with into `gates`, and ignores what follows it. A gate takes KB_GATE_SIZE bytes
+ * there: distance 2, number 2, high byte first, then suffix, manning, class, whistling and whistling type, one each.
+ * Changes: the first 9 bytes a gate of `gates`; what lies behind them stays.
+ * Refused: 1 fewer than 2 bytes; 2 type not 3; 3 length below 2; 1 fewer bytes than the length says; 3 length not the one for
+ * the count, which is (16 + 35 * count) / 8 rounded up; 4 a number not 1 to 1022, a suffix or class of 7, a whistling type
+ * of 3; 5 padding not zero; 1 `gates` too small. */
+kb_gates_answer kb_read_gates(const uint8_t *bytes, size_t bytes_len, uint8_t *gates, size_t gates_len);
+
+/* Writes all of `gates`, laid out as kb_read_gates leaves them, as one sub-packet to the start of `bytes`. KB_PACKET_SIZE bytes
+ * always do. Writing what was read gives the same sub-packet again.
+ * Changes: the sub-packet's bytes of `bytes`; what lies behind them stays.
+ * Refused: 3 `gates` not a multiple of 9 bytes, or over 28 gates; 4 a field not allowed (as above) or too large for its width
+ * (distance at most 32,767; manning and whistling 0 or 1); 1 `bytes` too small. */
+kb_gates_answer kb_write_gates(const uint8_t *gates, size_t gates_len, uint8_t *bytes, size_t bytes_len);
+
+typedef struct kb_age_answer {
+    uint32_t answer;
+    uint32_t age;         /* (station less onboard) / 2, rounded down */
+    uint32_t condition24; /* 1 where the frame part of condition 24 holds: an age of 0 or 1 */
+    uint32_t condition26; /* 1 where condition 26 holds: an age over 14 */
+    uint32_t condition27; /* 1 where condition 27 holds: an age under 5 */
+} kb_age_answer;
+
+/* The age of the onboard frame by the station's. Refused: 17 a frame number not 1 to 86,400, or the station's below the
+ * onboard one. */
+kb_age_answer kb_frame_age(uint32_t station, uint32_t onboard);
+
+typedef struct kb_step_answer {
+    uint32_t answer;
+    uint32_t mode;     /* the next mode, or the same where no transition is open */
+    uint32_t priority; /* of the transition, 1 the highest; 0 where the mode stays */
+    uint32_t tie;      /* 1 where two or more open transitions share the best priority: the lowest target wins */
+} kb_step_answer;
+
+/* The mode step under KB_FLAGS flags, each 0 or 1; condition n is flags[n - 1]. Changes nothing.
+ * Refused: 17 a mode not 1 to 13, flags not 91 bytes, or a flag above 1. */
+kb_step_answer kb_next_mode(uint32_t mode, const uint8_t *flags, size_t flags_len);
+
+/* ---- A session: start and the nine operations ----
+ * Each changes the lent session where it is accepted, and no byte of it where it is refused. Each accepted operation but
+ * kb_step_back is one entry that a step back can undo; the latest 128 are kept. 34 comes before the reasons that are listed. */
+
+/* KB_SESSION_SIZE. */
+size_t kb_session_size(void);
+
+/* Makes the session empty, whatever the bytes were: no train, no entry, ticket counter 0. Numbers: zeros. Refused: 34 alone. */
+kb_answer kb_start(uint8_t *session, size_t session_len);
+
+/* Registers a loco that asks for `bytes` bytes a cycle: (bytes / 54) rounded up slots side by side, at the lowest free start. It
+ * is in mode SB, in the first empty row, with no position, authority, signal or order.
+ * Numbers: its ticket, its first slot, its slots.
+ * Refused: 10 loco out of range; 11 bytes not 1 to 324; 12 loco registered; 13 24 trains; 14 no ticket left; 15 no free run. */
+kb_answer kb_request(uint8_t *session, size_t session_len, uint32_t loco, uint32_t bytes);
+
+/* Takes a train out: its row is blank and its slots are free. Orders that other trains hold under its ticket stay.
+ * Numbers: zeros. Refused: 10 loco out of range; 16 no such train. */
+kb_answer kb_release(uint8_t *session, size_t session_len, uint32_t loco, uint32_t ticket);
+
+/* Steps the train's mode under KB_FLAGS flags, as kb_next_mode does. A step that stays is an entry too.
+ * Numbers: mode, priority, tie. Refused: 10; 16; 17 flags not 91 bytes, or a flag above 1. */
+kb_answer kb_flags(uint8_t *session, size_t session_len, uint32_t loco, uint32_t ticket, const uint8_t *flags, size_t flags_len);
+
+/* Reports a train's position. Numbers: as kb_end. Refused: 10; 16; 17 a location above 524,287, or the rear above the front. */
+kb_answer kb_position(uint8_t *session, size_t session_len, uint32_t loco, uint32_t ticket, uint32_t front, uint32_t rear);
+
+/* Grants an authority up to `end`, or none (KB_NONE). Numbers: as kb_end. Refused: 10; 16; 17 any other number above 524,287. */
+kb_answer kb_authority(uint8_t *session, size_t session_len, uint32_t loco, uint32_t ticket, uint32_t end);
+
+/* Tells of a signal at danger at `location`, or of none (KB_NONE). It does not bind a train in OV.
+ * Numbers: as kb_end. Refused: 10; 16; 17 any other number above 524,287. */
+kb_answer kb_danger(uint8_t *session, size_t session_len, uint32_t loco, uint32_t ticket, uint32_t location);
+
+/* Raises an SOS between L2, named first, and L1, by grid 1 (absolute block, rear end), 2 (absolute block, head on),
+ * 3 (automatic, signal ON, head on) or 4 (automatic, signal OFF, rear end). Each train that the measure concerns gets an order
+ * under the other's ticket: M2 limits L2 to L1's rear less 300 (not below 0), M3 L2 to its own front, M4 each to its own front;
+ * M5 is a bare order for L2, M6 for both. Both trains change, or neither.
+ * Numbers: M, S, 0.
+ * Refused: 10 L2's loco, then L1's; 16 L2, then L1; 23 the same train; 17 grid not 1 to 4; 19 either train without a class, or
+ * no order in the grid; 18 a position missing; 20 no place. */
+kb_answer kb_sos(uint8_t *session, size_t session_len, uint32_t loco2, uint32_t ticket2, uint32_t loco1, uint32_t ticket1,
+    uint32_t grid);
+
+/* Clears the train's order under the ticket of another. Numbers: as kb_end. Refused: 10; 16; 21 no such order. */
+kb_answer kb_clear(uint8_t *session, size_t session_len, uint32_t loco, uint32_t ticket, uint32_t other);
+
+/* Undoes the latest k entries kept, the latest first: trains, orders and slots are as they were before them. The ticket counter
+ * stays, so no ticket is granted twice. k of 0 is accepted. Numbers: the entries kept then, 0, 0.
+ * Refused: 22 k above the entries kept. */
+kb_answer kb_step_back(uint8_t *session, size_t session_len, uint32_t k);
+
+typedef struct kb_record_answer {
+    uint64_t number; /* of the record: `before` and one */
+    uint32_t kind;   /* 1 to 9, or 0 where the answer is 24 */
+    uint32_t answer;
+    uint32_t first;
+    uint32_t second;
+    uint32_t third;
+    uint32_t used; /* bytes of the record, with its header; 0 where the answer is 24 */
+} kb_record_answer;
+
+/* Runs the first record of `held`, the bytes of a recording that are at hand, and ignores what follows it; `before` records came
+ * before it. The longest record has 101 bytes. To play a recording, call it again behind the bytes used, until the answer is 24 or
+ * nothing is left. The kinds are the nine operations in the order above, 1 kb_request to 9 kb_step_back; a record is 4B 56, the
+ * kind and the payload's length (a byte each) and the payload: the operation's numbers, high byte first, locos and locations in 4
+ * bytes, tickets, byte counts and k in 2, the grid in 1, and the 91 flags.
+ * Numbers: those of the operation. `number`, `kind` and `used` are told of a record that is refused, too.
+ * Refused: 24 wrong mark, kind or length, or a cut record (also: nothing held, or 4,294,967,295 records before); 34; then as the
+ * operation. */
+kb_record_answer kb_run_record(uint8_t *session, size_t session_len, const uint8_t *held, size_t held_len, uint32_t before);
+
+/* ---- Questions: they change nothing ---- */
+
+/* The ticket counter: the latest ticket granted, or 0. Numbers: it, 0, 0. Refused: 34 alone. */
+kb_answer kb_counter(const uint8_t *session, size_t session_len);
+
+/* The entries kept, 0 to 128. Numbers: they, 0, 0. Refused: 34 alone. */
+kb_answer kb_kept(const uint8_t *session, size_t session_len);
+
+/* Whether a slot is taken. Numbers: 1 or 0, 0, 0; 0 for a slot outside 1 to 44. Refused: 34 alone. */
+kb_answer kb_is_taken(const uint8_t *session, size_t session_len, uint32_t slot);
+
+/* A train's effective end: the least of the granted end, the danger location (unless the mode is OV) and each order's limit.
+ * Numbers: 1, the end, 0; or zeros where no authority is granted. Refused: 10 loco out of range; 16 no such train. */
+kb_answer kb_end(const uint8_t *session, size_t session_len, uint32_t loco, uint32_t ticket);
+
+typedef struct kb_order {
+    uint32_t ticket; /* of the other train; 0 where this place holds no order */
+    uint32_t limit;  /* in metres; KB_NONE for a bare order */
+} kb_order;
+
+typedef struct kb_train_answer {
+    uint32_t answer;
+    uint32_t loco; /* 0 in an empty row */
+    uint32_t ticket;
+    uint32_t start; /* its first slot */
+    uint32_t slots; /* how many */
+    uint32_t mode;
+    uint32_t left;      /* the mode left for Override while the mode is OV, else 0 */
+    uint32_t front;     /* KB_NONE where no position was reported */
+    uint32_t rear;      /* KB_NONE where no position was reported */
+    uint32_t authority; /* the granted end, or KB_NONE */
+    uint32_t danger;    /* the danger location, or KB_NONE */
+    kb_order orders[4];
+} kb_train_answer;
+
+/* The train in a row of the register, 0 to 23. An empty row, and any row above 23, has loco 0. Refused: 34 alone, with zeros
+ * in every field, where an empty row has KB_NONE for what is not there. */
+kb_train_answer kb_train(const uint8_t *session, size_t session_len, uint32_t row);
+
+#ifdef __cplusplus
+}
+#endif
+
+#endif

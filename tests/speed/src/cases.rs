@@ -1,0 +1,263 @@
+//! What is timed: each case once with the archive and once with the model. A case is a round that can be repeated.
+
+use crate::archive;
+use bench_model::session::{Pair, Session};
+use bench_model::{clock, modes, packets};
+use std::cell::RefCell;
+use std::hint::black_box;
+use std::rc::Rc;
+
+pub type Round = Box<dyn FnMut()>;
+
+/// What is timed again and again, and what is done before each time without being timed.
+pub struct Rounds {
+    pub before: Option<Round>,
+    pub round: Round,
+}
+
+fn alone(round: impl FnMut() + 'static) -> Rounds {
+    Rounds { before: None, round: Box::new(round) }
+}
+
+/// The same rounds made for the archive and for the model, given a number of gates or trains.
+type Makers = (fn(u32) -> Rounds, fn(u32) -> Rounds);
+
+pub struct Case {
+    pub name: String,
+    makers: Makers,
+    size: u32,
+}
+
+impl Case {
+    fn new(name: impl Into<String>, size: u32, makers: Makers) -> Case {
+        Case { name: name.into(), makers, size }
+    }
+
+    pub fn ours(&self) -> Rounds {
+        (self.makers.0)(self.size)
+    }
+
+    pub fn model(&self) -> Rounds {
+        (self.makers.1)(self.size)
+    }
+}
+
+/// A round on a session of so many trains, of which the last is named.
+macro_rules! on_session {
+    (|$session:ident, $name:ident| $round:expr) => {{
+        let makers: Makers = (
+            |trains| {
+                let (mut $session, $name) = ours_with(trains);
+                alone(move || _ = black_box($round))
+            },
+            |trains| {
+                let (mut $session, $name) = model_with(trains);
+                alone(move || _ = black_box($round))
+            },
+        );
+        makers
+    }};
+}
+
+/// A step back of `$k` on a session of so many trains; the entries are made before.
+macro_rules! step_back {
+    ($k:literal) => {{
+        let makers: Makers = (|trains| undone(ours_with(trains), $k), |trains| undone(model_with(trains), $k));
+        makers
+    }};
+}
+
+const GATE: [u8; 9] = [0x02, 0x8A, 0, 12, 0, 1, 2, 1, 0];
+/// Condition 64 leads from SB to OS, which has a row class.
+const TO_OS: u32 = 64;
+const BYTES: u32 = 54;
+
+fn flags(conditions: &[u32]) -> Vec<u8> {
+    (1..=91).map(|n| u8::from(conditions.contains(&n))).collect()
+}
+
+fn gates(count: u32) -> Vec<u8> {
+    GATE.repeat(count as usize)
+}
+
+fn packet(count: u32) -> Vec<u8> {
+    let mut packet = vec![0; 125];
+    let written = packets::write_gates(&gates(count), &mut packet);
+    packet.truncate(written.bytes);
+    packet
+}
+
+/// The name of train n in a session of trains 1 to 24, all of which have a position and are in OS.
+fn name(n: u32) -> Pair {
+    Pair { loco: n, ticket: n }
+}
+
+fn ours_with(trains: u32) -> (archive::Session, Pair) {
+    let mut session = archive::Session::new();
+    for n in 1..=trains {
+        assert_eq!(session.request(n, BYTES).first, n);
+        assert_eq!(session.position(name(n), 1_000 * n, 1_000 * n - 200).answer, 0);
+        assert_eq!(session.flags(name(n), &flags(&[TO_OS])).first, 6);
+    }
+    (session, name(trains))
+}
+
+fn model_with(trains: u32) -> (Session, Pair) {
+    let mut session = Session::new();
+    for n in 1..=trains {
+        assert_eq!(session.request(n, BYTES).numbers[0], n);
+        assert_eq!(session.position(name(n), 1_000 * n, 1_000 * n - 200).answer, 0);
+        assert_eq!(session.flags(name(n), &flags(&[TO_OS])).numbers[0], 6);
+    }
+    (session, name(trains))
+}
+
+fn packet_cases() -> Vec<Case> {
+    let read: Makers = (
+        |count| {
+            let (packet, mut gates) = (packet(count), vec![0; 252]);
+            alone(move || assert_eq!(archive::read_gates(black_box(&packet), &mut gates).answer, 0))
+        },
+        |count| {
+            let (packet, mut gates) = (packet(count), vec![0; 252]);
+            alone(move || assert_eq!(packets::read_gates(black_box(&packet), &mut gates).answer, 0))
+        },
+    );
+    let write: Makers = (
+        |count| {
+            let (gates, mut packet) = (gates(count), vec![0; 125]);
+            alone(move || assert_eq!(archive::write_gates(black_box(&gates), &mut packet).answer, 0))
+        },
+        |count| {
+            let (gates, mut packet) = (gates(count), vec![0; 125]);
+            alone(move || assert_eq!(packets::write_gates(black_box(&gates), &mut packet).answer, 0))
+        },
+    );
+    let counts = [0, 1, 28];
+    let reads = counts.map(|count| Case::new(format!("gate read, gates: {count}"), count, read));
+    let writes = counts.map(|count| Case::new(format!("gate write, gates: {count}"), count, write));
+    reads.into_iter().chain(writes).collect()
+}
+
+fn plain_cases() -> Vec<Case> {
+    let step: Makers = (
+        |mode| {
+            let flags = flags(&[71, 76]);
+            alone(move || assert_eq!(archive::next_mode(black_box(mode), &flags).third, 1))
+        },
+        |mode| {
+            let flags = flags(&[71, 76]);
+            alone(move || assert_eq!(modes::step(black_box(mode), &flags).expect("a mode").tie, 1))
+        },
+    );
+    let age: Makers = (
+        |station| alone(move || assert_eq!(archive::frame_age(black_box(station), 11).age, 4)),
+        |station| alone(move || assert_eq!(clock::frame_age(black_box(station), 11).age, 4)),
+    );
+    vec![Case::new("mode step, FS with 71 and 76", 4, step), Case::new("frame age", 20, age)]
+}
+
+/// A train comes and goes beside so many others. Where the tickets are used up, another session takes over.
+fn turn() -> Makers {
+    (
+        |others| {
+            let (mut session, _) = ours_with(others);
+            alone(move || {
+                let granted = session.request(others + 1, BYTES);
+                if granted.answer != 0 {
+                    session = ours_with(others).0;
+                    return;
+                }
+                assert_eq!(session.release(Pair { loco: others + 1, ticket: granted.first }).answer, 0);
+            })
+        },
+        |others| {
+            let (mut session, _) = model_with(others);
+            alone(move || {
+                let granted = session.request(others + 1, BYTES);
+                if granted.answer != 0 {
+                    session = model_with(others).0;
+                    return;
+                }
+                assert_eq!(session.release(Pair { loco: others + 1, ticket: granted.numbers[0] }).answer, 0);
+            })
+        },
+    )
+}
+
+fn position(trains: u32) -> Case {
+    let makers = on_session!(|session, name| session.position(name, 4_000, 3_800));
+    Case::new(format!("position, trains: {trains}"), trains, makers)
+}
+
+/// The operations on a register of so many trains; the last one is named.
+fn session_cases(trains: u32) -> Vec<Case> {
+    let case = |what: &str, makers: Makers| Case::new(format!("{what}, trains: {trains}"), trains, makers);
+    let mut cases = vec![
+        Case::new(format!("request and release, trains: {trains}"), trains - 1, turn()),
+        case("flags, the mode stays", on_session!(|session, name| session.flags(name, &[0; 91]))),
+        position(trains),
+        case("authority", on_session!(|session, name| session.authority(name, 9_000))),
+        case("danger signal", on_session!(|session, name| session.danger(name, 7_500))),
+    ];
+    if trains > 1 {
+        let sos = on_session!(|session, two| {
+            session.sos(two, name(1), 1);
+            session.clear(two, 1)
+        });
+        cases.push(case("SOS (M2) and clear", sos));
+    }
+    cases.push(case("end asked", on_session!(|session, name| (&mut session).end(name))));
+    cases
+}
+
+/// What a step back needs of either session.
+trait Steps: Clone + 'static {
+    fn enter(&mut self, name: Pair);
+    fn undo(&mut self, k: u32) -> u32;
+}
+
+impl Steps for archive::Session {
+    fn enter(&mut self, name: Pair) {
+        self.position(name, 4_000, 3_800);
+    }
+
+    fn undo(&mut self, k: u32) -> u32 {
+        self.back(k).answer
+    }
+}
+
+impl Steps for Session {
+    fn enter(&mut self, name: Pair) {
+        self.position(name, 4_000, 3_800);
+    }
+
+    fn undo(&mut self, k: u32) -> u32 {
+        self.back(k).answer
+    }
+}
+
+/// Before each round the session is as it was at first, with k entries more.
+fn undone((first, name): (impl Steps, Pair), k: u32) -> Rounds {
+    let session = Rc::new(RefCell::new(first.clone()));
+    let same = Rc::clone(&session);
+    let before: Round = Box::new(move || {
+        let mut session = session.borrow_mut();
+        session.clone_from(&first);
+        (0..k).for_each(|_| session.enter(name));
+    });
+    Rounds { before: Some(before), round: Box::new(move || assert_eq!(same.borrow_mut().undo(k), 0)) }
+}
+
+fn back_cases() -> Vec<Case> {
+    vec![Case::new("step back of 1", 24, step_back!(1)), Case::new("step back of 128", 24, step_back!(128))]
+}
+
+pub fn all() -> Vec<Case> {
+    let mut cases = packet_cases();
+    cases.extend(plain_cases());
+    cases.extend(session_cases(1));
+    cases.extend(session_cases(24));
+    cases.extend(back_cases());
+    cases
+}
