@@ -1,9 +1,9 @@
 // The questions that only read a lent session, under their names in C. Each refuses bytes of another length.
 use crate::told;
 use crate::told::TrainAnswer;
-use rulings::refusals;
 use rulings::ruling::Answer;
 use session::questions;
+use session::refusals;
 use store::layout;
 use trains::kinds::Loco;
 use trains::kinds::Slot;
