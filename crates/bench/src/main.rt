@@ -9,6 +9,10 @@ use session::operations;
 ghost use mathlib.Core.Path.{_≡_};
 ghost use Prim.Native.Nat.{_+_, _≤_};
 ghost use lib.ListN.{length};
+ghost use Rattle.bench.specs.Playing.{IsRecorded};
+ghost use Rattle.lines.specs.Line.{lineOf};
+ghost use Rattle.recording.specs.Listing.{accepted};
+ghost use Rattle.recording.specs.Listing.{lineOf as textFor};
 
 mod held;
 mod parts;
@@ -30,7 +34,9 @@ fn session_bytes() -> [u8; 24704]
     [0; 24704]
 }
 
-fn line_of(ran: Ran) -> Line {
+fn line_of(ran: Ran) -> Line
+    ensures { λ r. ⌜ r ≡ lineOf (textFor ran) ⌝ }
+{
     lines::record_line(
         ran.number,
         ran.kind,
@@ -42,7 +48,7 @@ fn line_of(ran: Ran) -> Line {
 }
 
 fn accepted_by(ran: Ran) -> u64
-    ensures { λ r. ⌜ r ≤ 1 ⌝ }
+    ensures { λ r. ⌜ (r ≡ accepted ran) × (r ≤ 1) ⌝ }
 {
     if ran.answer == 0 { 1 } else { 0 }
 }
@@ -83,7 +89,7 @@ fn stopped(play: Play, held: Held) -> Play
 // The line of a record that was run is put; `held` is what stands behind it.
 fn recorded(play: Play, held: Held, ran: Ran, output: &mut [u8]) -> Play
     requires { ⌜ play .accepted ≤ 4294967295 ⌝ }
-    ensures { λ r. ⌜ r .accepted ≤ play .accepted + 1 ⌝ }
+    ensures { λ r. ⌜ IsRecorded play held ran (now (output .entry)) (now (output .exit)) r ⌝ }
 {
     let earlier = play.pending;
     let pending = pending::put(output, earlier, line_of(ran));
