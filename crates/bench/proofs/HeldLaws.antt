@@ -117,3 +117,8 @@ module _ (b t u : List ℕ) (at end a e : ℕ) (r : Held) (he : e ≡ min end (l
 
   pub read-ready : IsReady u r
   read-ready more = rw (held-all, length-take-le (r .end) u (on .inside)) (on .enough more)
+
+-- where no bytes are held, there are none
+pub none-held : (s t : List ℕ) → s ≡ t → length s ≡ 0 → t ≡ []
+none-held [] t e h = sym e
+none-held (x ∷ s) t e h = absurd (omega arith)

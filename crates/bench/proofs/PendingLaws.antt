@@ -5,10 +5,11 @@ use Prim.Native.Nat.{ℕ, _+_, _-_, _≤_, _<_, min}
 use native.Mathlib.Decide.{decLt}
 use native.Mathlib.Omega.{arith}
 use borrow.Author.Tests.{lt-ltb, le-ltb}
-use lib.ListN.{length, take}
-use lib.Seq.{paste, take-paste, take-all}
+use lib.ListN.{length, take, replicate, length-append}
+use lib.Seq.{paste, take-paste, take-all, take-append-seam}
+use Rattle.lines.specs.Line.{room, lineOf}
 use Rattle.bench.specs.declared.pending.Pending.{Pending}
-use Rattle.bench.specs.Pending.{pendingBefore}
+use Rattle.bench.specs.Pending.{pendingBytes, pendingBefore, IsPut}
 
 -- the first bytes of a list up to a place that is kept within it
 pub take-within : (b : List ℕ) (n m : ℕ) → m ≡ min n (length b) → take m b ≡ take n b
@@ -37,3 +38,13 @@ module _ (b : List ℕ) (p : Pending) (n m : ℕ) (e : m ≡ min (p .filled) (le
   pub before-kept : n ≤ length b - m → take (p .filled) b ≡ pendingBefore b p n
   unfolding pendingBefore
   before-kept h = rw (le-ltb (length b - p .filled) n (omega arith))
+
+-- ---- so the text of a line that was put stands whole behind what stays pending
+
+pub text-put : (b a t : List ℕ) (p r : Pending) → IsPut b p (lineOf t) a r → length t ≤ room → room ≤ length b
+    → pendingBytes a r ≡ pendingBefore b p (length t) ++ t
+unfolding lineOf
+text-put b a t p r put short large =
+    let zeros : List ℕ = replicate (room - length t) 0 in
+    let inside : length t ≤ length (t ++ zeros) = rw length-append (omega arith) in
+    put (short, inside) large ∙ ap (λ (s : List ℕ). pendingBefore b p (length t) ++ s) (take-append-seam t zeros)

@@ -9,6 +9,10 @@ use session::operations;
 ghost use mathlib.Core.Path.{_≡_};
 ghost use Prim.Native.Nat.{_+_, _≤_};
 ghost use lib.ListN.{length};
+ghost use Rattle.bench.specs.Playing.{bytes, stoppedAt, IsRecorded, IsStep};
+ghost use Rattle.lines.specs.Line.{lineOf};
+ghost use Rattle.recording.specs.Listing.{accepted};
+ghost use Rattle.recording.specs.Listing.{lineOf as textFor};
 
 mod held;
 mod parts;
@@ -30,7 +34,9 @@ fn session_bytes() -> [u8; 24704]
     [0; 24704]
 }
 
-fn line_of(ran: Ran) -> Line {
+fn line_of(ran: Ran) -> Line
+    ensures { λ r. ⌜ r ≡ lineOf (textFor ran) ⌝ }
+{
     lines::record_line(
         ran.number,
         ran.kind,
@@ -42,7 +48,7 @@ fn line_of(ran: Ran) -> Line {
 }
 
 fn accepted_by(ran: Ran) -> u64
-    ensures { λ r. ⌜ r ≤ 1 ⌝ }
+    ensures { λ r. ⌜ (r ≡ accepted ran) × (r ≤ 1) ⌝ }
 {
     if ran.answer == 0 { 1 } else { 0 }
 }
@@ -68,7 +74,7 @@ fn begun(output: &mut [u8]) -> Play
 
 // The same play at its end.
 fn stopped(play: Play, held: Held) -> Play
-    ensures { λ r. ⌜ r .accepted ≡ play .accepted ⌝ }
+    ensures { λ r. ⌜ r ≡ stoppedAt play held ⌝ }
 {
     let pending = play.pending;
     Play {
@@ -83,7 +89,7 @@ fn stopped(play: Play, held: Held) -> Play
 // The line of a record that was run is put; `held` is what stands behind it.
 fn recorded(play: Play, held: Held, ran: Ran, output: &mut [u8]) -> Play
     requires { ⌜ play .accepted ≤ 4294967295 ⌝ }
-    ensures { λ r. ⌜ r .accepted ≤ play .accepted + 1 ⌝ }
+    ensures { λ r. ⌜ IsRecorded play held ran (now (output .entry)) (now (output .exit)) r ⌝ }
 {
     let earlier = play.pending;
     let pending = pending::put(output, earlier, line_of(ran));
@@ -99,12 +105,18 @@ fn recorded(play: Play, held: Held, ran: Ran, output: &mut [u8]) -> Play
 // The next record is run and its line put. The play stops where nothing is left or nothing can be read.
 fn step(play: Play, before: u32, session: &mut [u8], input: &mut [u8], output: &mut [u8]) -> Play
     requires { ⌜ play .accepted ≤ before ⌝ }
+    ensures { λ r.
+        ⌜ IsStep play before (bytes (now (session .entry)) (now (input .entry)) (now (output .entry)))
+        (bytes (now (session .exit)) (now (input .exit)) (now (output .exit))) r ⌝ }
     ensures { λ r. ⌜ r .accepted ≤ play .accepted + 1 ⌝ }
 {
     let earlier = play.held;
     let held = held::ready(input, earlier);
     let first = held::part(input, held);
-    if held.failed || first.len() == 0 {
+    if held.failed {
+        return stopped(play, held);
+    }
+    if first.len() == 0 {
         return stopped(play, held);
     }
     let ran = running::run(session, first, before);
