@@ -81,13 +81,14 @@ typedef struct kb_session {
 #define KB_LEND(session) (session)->bytes, sizeof (session)->bytes
 
 /* The rows of the register, the slots, the flags of a mode step, the bytes of a gate outside its sub-packet, the most gates of
- * a sub-packet, and its bytes then. */
+ * a sub-packet, its bytes then, and the bytes of the longest record of a recording. */
 #define KB_ROWS 24
 #define KB_SLOTS 44
 #define KB_FLAGS 91
 #define KB_GATE_SIZE 9
 #define KB_MOST_GATES 28
 #define KB_PACKET_SIZE 125
+#define KB_LONGEST_RECORD 101
 
 /* What most calls answer; each call says what its three numbers are. */
 typedef struct kb_answer {
@@ -216,10 +217,10 @@ typedef struct kb_record_answer {
 } kb_record_answer;
 
 /* Runs the first record of `held`, the bytes of a recording that are at hand, and ignores what follows it; `before` records came
- * before it. The longest record has 101 bytes. To play a recording, call it again behind the bytes used, until the answer is 24 or
- * nothing is left. The kinds are the nine operations in the order above, 1 kb_request to 9 kb_step_back; a record is 4B 56, the
- * kind and the payload's length (a byte each) and the payload: the operation's numbers, high byte first, locos and locations in 4
- * bytes, tickets, byte counts and k in 2, the grid in 1, and the 91 flags.
+ * before it. To play a recording, hold KB_LONGEST_RECORD bytes of it or all that is left, and call it again behind the bytes used,
+ * until the answer is 24 or nothing is left. The kinds are the nine operations in the order above, 1 kb_request to 9 kb_step_back;
+ * a record is 4B 56, the kind and the payload's length (a byte each) and the payload: the operation's numbers, high byte first,
+ * locos and locations in 4 bytes, tickets, byte counts and k in 2, the grid in 1, and the 91 flags.
  * Numbers: those of the operation. `number`, `kind` and `used` are told of a record that is refused, too.
  * Refused: 24 wrong mark, kind or length, or a cut record (also: nothing held, or 4,294,967,295 records before); 34; then as the
  * operation. */

@@ -2,6 +2,8 @@
 //!
 //!     bench_speed table RECORDING [COUNTS]  every case: nanoseconds of both, and the ratio; COUNTS is a file of `CASE OURS MODEL`
 //!                                           lines with instruction counts
+//!     bench_speed programs OURS MODEL RECORDING  both programs on a recording: the listings are compared, and the time is that of
+//!                                           a whole run, for each record
 //!     bench_speed cases                     how many cases there are
 //!     bench_speed only CASE SIDE ROUNDS     nothing but rounds of one case (0 ..) with one side (ours, model)
 //!     bench_speed before CASE SIDE ROUNDS   nothing but what comes before each of those rounds
@@ -11,6 +13,8 @@ mod cases;
 mod recordings;
 
 use cases::{Case, Rounds};
+use std::fs::File;
+use std::process::Command;
 use std::time::Instant;
 
 const SAMPLES: usize = 101;
@@ -66,18 +70,62 @@ fn medians(case: &Case) -> [f64; 2] {
     samples.map(median)
 }
 
+/// The processor's time that this program has taken, in nanoseconds: what takes long enough to be interrupted is timed by it.
+fn spent() -> f64 {
+    let text = std::fs::read_to_string("/proc/self/schedstat").expect("Linux tells a program's time");
+    text.split(' ').next().and_then(|word| word.parse().ok()).expect("a number")
+}
+
+/// The processor's time that the programs have taken that this one has run, in nanoseconds: it is told in hundredths of a second.
+fn spent_by_others() -> f64 {
+    let text = std::fs::read_to_string("/proc/self/stat").expect("Linux tells a program's time");
+    let (_, fields) = text.rsplit_once(") ").expect("the name stands in brackets");
+    let fields: Vec<f64> = fields.split(' ').skip(13).take(2).map(|word| word.parse().expect("a number")).collect();
+    (fields[0] + fields[1]) * 10_000_000.0
+}
+
 /// The median of some whole plays of a recording, in nanoseconds for each record.
 fn played(recording: &[u8]) -> (u32, [f64; 2]) {
     let mut samples = [Vec::new(), Vec::new()];
     let whole = recordings::model(recording);
     for _ in 0..PLAYS {
         for (side, play) in [recordings::ours, recordings::model].iter().enumerate() {
-            let start = Instant::now();
+            let start = spent();
             assert_eq!(play(recording), whole);
-            samples[side].push(since(start, whole.records));
+            samples[side].push((spent() - start) / f64::from(whole.records));
         }
     }
     (whole.records, samples.map(median))
+}
+
+/// The listing that a program writes of a recording, and the time of the whole run.
+fn listing(program: &str, recording: &str) -> (Vec<u8>, f64) {
+    let recording = File::open(recording).expect("the recording");
+    let start = spent_by_others();
+    let output = Command::new(program).stdin(recording).output().expect("a program that runs");
+    assert!(output.status.success(), "{program} fails");
+    (output.stdout, spent_by_others() - start)
+}
+
+fn programs(ours: &str, model: &str, recording: &str) {
+    let mut samples = [Vec::new(), Vec::new()];
+    let whole = listing(model, recording).0;
+    // The listing has a line at either end besides.
+    let records = whole.iter().filter(|&&byte| byte == b'\n').count() - 2;
+    for _ in 0..PLAYS {
+        for (side, program) in [ours, model].into_iter().enumerate() {
+            let (listed, time) = listing(program, recording);
+            assert!(listed == whole, "the listings differ");
+            samples[side].push(time / records as f64);
+        }
+    }
+    let time = samples.map(median);
+    println!(
+        "| the same by the program, with its listing | {:.0} | {:.0} | {:.1} | - | - | - |",
+        time[0],
+        time[1],
+        ratio(time)
+    );
 }
 
 fn ratio(pair: [f64; 2]) -> f64 {
@@ -135,12 +183,13 @@ fn main() {
     match words[..] {
         ["table", recording] => table(recording, None),
         ["table", recording, path] => table(recording, Some(counts(path))),
+        ["programs", ours, model, recording] => programs(ours, model, recording),
         ["cases"] => println!("{}", cases::all().len()),
         [what @ ("only" | "before"), place, side, rounds] => {
             only(place.parse().expect("a place"), side, what == "before", rounds.parse().expect("rounds"))
         }
         _ => eprintln!(
-            "usage: bench_speed table RECORDING [COUNTS] | cases | only CASE SIDE ROUNDS | before CASE SIDE ROUNDS"
+            "usage: bench_speed table RECORDING [COUNTS] | programs OURS MODEL RECORDING | cases | only CASE SIDE ROUNDS | before CASE SIDE ROUNDS"
         ),
     }
 }
