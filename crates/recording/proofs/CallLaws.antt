@@ -7,7 +7,6 @@ use Rattle.rules.specs.Rules.{Op}
 use Rattle.rulings.specs.declared.ruling.Answer.{Answer}
 use Rattle.session.specs.Answers.{answerTo, bytesAfter, backAnswer, backAfter}
 use Rattle.standing.specs.Standing.{answered, bytesLeft}
-use Rattle.recording.specs.Kinds.{callBy}
 
 module _ (bs : List ℕ) where
   -- what a contract says of a call

@@ -1,6 +1,6 @@
 -- What is known of a record that is whole. Assumes nothing.
 use mathlib.Core.Bool.{Bool, true, _&&_}
-use mathlib.Core.Path.{_≡_, sym, ap, _∙_}
+use mathlib.Core.Path.{_≡_, refl, ap}
 use mathlib.Core.List.{List}
 use Prim.Native.Nat.{ℕ, _+_, _-_, _<_, _≤_}
 use native.Mathlib.Omega.{arith}
@@ -11,6 +11,11 @@ use Rattle.packets.specs.Numbers.{numberAt}
 use Rattle.recording.specs.Kinds.{among, payloadLength}
 use Rattle.recording.specs.Records.{mark, headBytes, longest, kindOf, saidLength, recordLength, isRecord, payloadOf}
 use Rattle.recording.proofs.KindLaws.{both, payload-most}
+
+-- a record of the flags is as long as the longest
+pub longest-met : headBytes + payloadLength 3 ≡ longest
+unfolding payloadLength among
+longest-met = refl
 
 module _ (held : List ℕ) where
   -- a record has its head

@@ -1,6 +1,7 @@
 pub mod KindLaws
 pub mod CallLaws
 pub mod FormLaws
+pub mod GroundLaws
 pub mod RunLaws
 pub mod RecordLaws
 pub mod ListingLaws

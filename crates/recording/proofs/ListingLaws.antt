@@ -1,10 +1,10 @@
 -- A LISTING IS READ RECORD BY RECORD: what a loop over the records writes is the listing. Assumes nothing.
-use mathlib.Core.Bool.{Bool, true, false, cond}
+use mathlib.Core.Bool.{true, false, cond}
 use mathlib.Core.Path.{_≡_, refl, sym, ap, ap₂, _∙_}
 use mathlib.Core.List.{List, [], _∷_, _++_, append-assoc}
-use Prim.Native.Nat.{ℕ, zero, suc, _+_, _≤_, _<_}
+use Prim.Native.Nat.{ℕ, zero, suc, _+_, _≤_}
 use native.Mathlib.Omega.{arith}
-use lib.ListN.{length, drop, replicate, length-drop}
+use lib.ListN.{length, drop, length-drop}
 use lib.Seq.{drop-at}
 use Rattle.lines.specs.Text.{endLine}
 use Rattle.store.specs.Emptied.{emptied}

@@ -1,11 +1,10 @@
 -- DEMAND 3 OF A RECORDING: its records are calls of the session, so the demand holds of what it leaves. Assumes nothing.
-use mathlib.Core.Bool.{Bool, true, false, cond}
-use mathlib.Core.Path.{_≡_, refl, sym, ap, _∙_, subst}
-use mathlib.Core.List.{List, [], _∷_}
+use mathlib.Core.Bool.{Bool, true, false}
+use mathlib.Core.Path.{_≡_, refl, sym, subst}
+use mathlib.Core.List.{List}
 use Prim.Native.Nat.{ℕ, zero, suc, _+_}
 use lib.ListN.{length, drop, length-replicate}
-use Rattle.replay.specs.Demand3.{Call, Demand3}
-use Rattle.rules.specs.Rules.{Op}
+use Rattle.replay.specs.Demand3.{Demand3}
 use Rattle.store.specs.Layout.{sessionBytes}
 use Rattle.standing.specs.Calls.{history, bytesAfterAll}
 use Rattle.standing.specs.Standing.{bytesLeft, session}

@@ -14,9 +14,10 @@ use Rattle.standing.specs.Told.{answerBy}
 use Rattle.standing.proofs.ToldLaws.{told-refused, told-whole}
 use Rattle.standing.specs.Standing.{answered, bytesLeft}
 use Rattle.recording.specs.Records.{kindOf, recordLength, isRecord, callOf}
-use Rattle.recording.specs.Running.{mostRecords, isRun, notRun, runWith, ranRecord, bytesAfterRecord}
+use Rattle.recording.specs.Running.{badRecord, mostRecords, isRun, notRun, runWith, ranRecord, bytesAfterRecord}
 use Rattle.recording.specs.declared.running.Ran.{Ran}
 use Rattle.recording.proofs.KindLaws.{both}
+use Rattle.recording.proofs.GroundLaws.{answered-other}
 use Rattle.recording.proofs.FormLaws.{record-whole, record-kind}
 use Rattle.recording.proofs.CallLaws.{Called}
 
@@ -69,7 +70,11 @@ module _ (bs held : List ℕ) (before : ℕ) where
   pub run-used : isRun held before ≡ true → ranRecord bs held before .used ≡ recordLength held
   run-used e = ap (λ (r : Ran). r .used) (sym (is-run e (refl, refl) .0))
 
-  -- so the line of a record has kind 0 exactly where it is not run
+  -- 24 is answered exactly where the record is not run
+  pub run-answer : isRun held before ≡ true → ranRecord bs held before .answer ≡ badRecord → ⊥
+  run-answer e z = answered-other bs (callOf held) (ap (λ (r : Ran). r .answer) (is-run e (refl, refl) .0) ∙ z)
+
+  -- and its line has kind 0 exactly where it is not run
   pub run-kind : isRun held before ≡ true → ranRecord bs held before .kind ≡ 0 → ⊥
   run-kind e z = record-kind held (run-record held before e) (ap (λ (r : Ran). r .kind) (is-run e (refl, refl) .0) ∙ z)
 

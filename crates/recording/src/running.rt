@@ -3,6 +3,7 @@ use crate::calls;
 use crate::records;
 use rulings::ruling::Answer;
 ghost use mathlib.Core.Path.{_≡_};
+ghost use Rattle.recording.specs.Records.{longest};
 ghost use Rattle.recording.specs.Running.{isRun, notRun, runWith, ranRecord, bytesAfterRecord};
 
 // The bytes of the longest record: a reader that holds so many holds enough.
@@ -46,6 +47,13 @@ impl Ran {
     {
         Ran::run_with(before, 0, 0, Answer::refused(BAD_RECORD))
     }
+}
+
+// The bytes that a reader needs to hold, for a host that asks.
+pub fn longest_record() -> usize
+    ensures { λ r. ⌜ r ≡ longest ⌝ }
+{
+    LONGEST
 }
 
 // Does `held` begin with a record that is run, where `before` records came before it?

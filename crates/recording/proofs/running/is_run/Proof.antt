@@ -1,5 +1,4 @@
 -- `recording::running::is_run` meets its contract. Assumes nothing.
-use mathlib.Core.Path.{_≡_}
 use borrow.Author.Tests.{lt-ltb, le-ltb}
 use Rattle.recording.specs.Running.{isRun, mostRecords}
 use borrow.Author.Needs.{needs}
