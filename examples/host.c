@@ -77,7 +77,7 @@ int main(void)
     print_trains();
     accepted("step back by one", kb_step_back(KB_LEND(&bench), 1));
     accepted("end of loco 7", kb_end(KB_LEND(&bench), 7, rear));
-    told("a stale ticket releases nothing", kb_release(KB_LEND(&bench), 8, ahead + 1));
+    told("a wrong ticket releases nothing", kb_release(KB_LEND(&bench), 8, ahead + 1));
     accepted("loco 8 is released", kb_release(KB_LEND(&bench), 8, ahead));
     print_trains();
     return EXIT_SUCCESS;

@@ -164,7 +164,7 @@ size_t kb_session_size(void);
 /* Makes the session empty, whatever the bytes were: no train, no entry, ticket counter 0. Numbers: zeros. Refused: 34 alone. */
 kb_answer kb_start(uint8_t *session, size_t session_len);
 
-/* Registers a loco that asks for `bytes` bytes a cycle: (bytes / 54) rounded up slots side by side, at the lowest free start. It
+/* Registers a loco that asks for `bytes` bytes: (bytes / 54) rounded up slots side by side, at the lowest free start. It
  * is in mode SB, in the first empty row, with no position, authority, signal or order.
  * Numbers: its ticket, its first slot, its slots.
  * Refused: 10 loco out of range; 11 bytes not 1 to 324; 12 loco registered; 13 24 trains; 14 no ticket left; 15 no free run. */
@@ -192,9 +192,10 @@ kb_answer kb_danger(uint8_t *session, size_t session_len, uint32_t loco, uint32_
  * 3 (automatic, signal ON, head on) or 4 (automatic, signal OFF, rear end). Each train that the measure concerns gets an order
  * under the other's ticket: M2 limits L2 to L1's rear less 300 (not below 0), M3 L2 to its own front, M4 each to its own front;
  * M5 is a bare order for L2, M6 for both. Both trains change, or neither.
- * Numbers: M, S, 0.
- * Refused: 10 L2's loco, then L1's; 16 L2, then L1; 23 the same train; 17 grid not 1 to 4; 19 either train without a class, or
- * no order in the grid; 18 a position missing; 20 no place. */
+ * Numbers: M, S, 0. S is the signal display: 1 as at site, 2 blank, 3 red.
+ * Refused: 10 L2's loco, then L1's; 16 L2, then L1; 23 the same train; 17 grid not 1 to 4; 19 either train in a mode without a
+ * class (all but SR, LS, FS, OV, OS, TR and PT), or no order in the grid (grids 1 and 2, for L2 in FS, TR or PT); 18 a position
+ * missing; 20 no place. */
 kb_answer kb_sos(uint8_t *session, size_t session_len, uint32_t loco2, uint32_t ticket2, uint32_t loco1, uint32_t ticket1,
     uint32_t grid);
 

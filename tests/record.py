@@ -1,5 +1,5 @@
 #!/usr/bin/env python3
-"""Tries tools/record: the message for each sort of bad line, and every recording shown and made again."""
+"""Tries tools/record: the message for each sort of bad line, and every recording shown and made again: tests/record.py"""
 
 import contextlib
 import importlib.machinery
