@@ -217,6 +217,9 @@ typedef struct kb_record_answer {
     uint32_t used; /* bytes of the record, with its header; 0 where the answer is 24 */
 } kb_record_answer;
 
+/* KB_LONGEST_RECORD. */
+size_t kb_longest_record(void);
+
 /* Runs the first record of `held`, the bytes of a recording that are at hand, and ignores what follows it; `before` records came
  * before it. To play a recording, hold KB_LONGEST_RECORD bytes of it or all that is left, and call it again behind the bytes used,
  * until the answer is 24 or nothing is left. The kinds are the nine operations in the order above, 1 kb_request to 9 kb_step_back;

@@ -1,9 +1,10 @@
 -- A play, record by record.
-use mathlib.Core.Bool.{true}
+use mathlib.Core.Bool.{Bool, true, false, not, _||_}
 use mathlib.Core.List.{List, []}
 use mathlib.Core.Logic.{_⊎_}
 use mathlib.Core.Path.{_≡_}
 use Prim.Native.Nat.{ℕ, _+_, _≤_}
+use lib.Dec.{eqb}
 use Rattle.lines.specs.Line.{lineOf}
 use Rattle.recording.specs.Listing.{accepted}
 use Rattle.recording.specs.Listing.{lineOf as textFor}
@@ -11,8 +12,13 @@ use Rattle.recording.specs.Running.{ranRecord, bytesAfterRecord}
 use Rattle.recording.specs.declared.running.Ran.{Ran}
 use Rattle.bench.specs.declared.Play.{Play}
 use Rattle.bench.specs.declared.held.Held.{Held}
+use Rattle.bench.specs.declared.pending.Pending.{Pending}
 use Rattle.bench.specs.Held.{heldBytes, IsBehind, Continues, IsReady}
 use Rattle.bench.specs.Pending.{IsPut}
+
+-- the play stops behind a record that is none, and where the listing cannot be written
+unfoldable pub isLast : Ran → Pending → Bool
+isLast ran pending = eqb (ran .kind) 0 || not (pending .open)
 
 -- a record that was run: its line is put, it is counted, and `held` is what stands behind it
 pub record IsRecorded (play : Play) (held : Held) (ran : Ran) (before after : List ℕ) (r : Play) : Type 0 where
@@ -21,6 +27,7 @@ pub record IsRecorded (play : Play) (held : Held) (ran : Ran) (before after : Li
   pub lines : r .lines ≡ ran .number
   pub counted : r .accepted ≡ play .accepted + accepted ran
   pub one : r .accepted ≤ play .accepted + 1
+  pub stops : r .stopped ≡ isLast ran (r .pending)
 
 -- the same play at its end
 abbrev pub stoppedAt : Play → Held → Play
@@ -49,6 +56,7 @@ pub record Stops (play : Play) (held : Held) (before after : Bytes) (r : Play) :
 
 -- the first record of what is held is run, where n came before it
 pub record Runs (play : Play) (n : ℕ) (held : Held) (before after : Bytes) (r : Play) : Type 0 where
+  pub goes-on : (held .failed ≡ false) × (heldBytes (after .input) held ≡ [] → ⊥)
   pub ran : Ran
   pub told : ran ≡ ranRecord (before .session) (heldBytes (after .input) held) n
   pub session : after .session ≡ bytesAfterRecord (before .session) (heldBytes (after .input) held) n

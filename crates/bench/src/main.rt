@@ -9,9 +9,10 @@ use session::operations;
 ghost use mathlib.Core.Path.{_≡_};
 ghost use Prim.Native.Nat.{_+_, _≤_};
 ghost use lib.ListN.{length};
-ghost use Rattle.bench.specs.Playing.{bytes, stoppedAt, IsRecorded, IsStep};
+ghost use Rattle.bench.specs.Playing.{bytes, isLast, stoppedAt, IsRecorded, IsStep};
 ghost use Rattle.lines.specs.Line.{lineOf};
 ghost use Rattle.recording.specs.Listing.{accepted};
+ghost use Rattle.store.specs.Layout.{sessionBytes};
 ghost use Rattle.recording.specs.Listing.{lineOf as textFor};
 
 mod held;
@@ -29,7 +30,7 @@ struct Play {
 
 // The bytes of a session.
 fn session_bytes() -> [u8; 24704]
-    ensures { λ r. ⌜ 24704 ≡ length r ⌝ }
+    ensures { λ r. ⌜ sessionBytes ≡ length r ⌝ }
 {
     [0; 24704]
 }
@@ -54,7 +55,9 @@ fn accepted_by(ran: Ran) -> u64
 }
 
 // Does the play stop here? It does behind a record that is none, and where the listing can't be written.
-fn is_last(ran: Ran, pending: Pending) -> bool {
+fn is_last(ran: Ran, pending: Pending) -> bool
+    ensures { λ r. ⌜ r ≡ isLast ran pending ⌝ }
+{
     ran.kind == 0 || !pending.open
 }
 

@@ -1,8 +1,7 @@
--- The numbers of C as the kinds that they stand for.
+-- The numbers of C as the locos and tickets that they stand for.
 use Prim.Native.Nat.{ℕ}
 use Rattle.trains.specs.declared.kinds.Loco.{Loco}
 use Rattle.trains.specs.declared.kinds.Ticket.{Ticket}
-use Rattle.trains.specs.declared.kinds.Slot.{Slot}
 
 -- a loco number
 abbrev pub loco : ℕ → Loco
@@ -11,7 +10,3 @@ loco n = record { 0 = n }
 -- a ticket
 abbrev pub ticket : ℕ → Ticket
 ticket n = record { 0 = n }
-
--- a slot
-abbrev pub slot : ℕ → Slot
-slot n = record { 0 = n }

@@ -2,7 +2,16 @@
 use recording::running;
 use recording::running::Ran;
 ghost use mathlib.Core.Path.{_≡_};
+ghost use Rattle.recording.specs.Records.{longest};
 ghost use Rattle.recording.specs.Running.{ranRecord, bytesAfterRecord};
+
+// The bytes of the longest record.
+#[no_mangle]
+pub extern "C" fn kb_longest_record() -> usize
+    ensures { λ r. ⌜ r ≡ longest ⌝ }
+{
+    running::longest_record()
+}
 
 // `before` is how many records came before this one.
 #[no_mangle]

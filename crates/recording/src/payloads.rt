@@ -1,4 +1,4 @@
-// What stands in a record's payload. Here alone a number becomes a loco or a ticket.
+// What stands in a record's payload. Of a record's numbers, here alone one becomes a loco or a ticket.
 use packets::numbers;
 use trains::kinds::Loco;
 use trains::kinds::Ticket;

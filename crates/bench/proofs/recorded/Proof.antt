@@ -16,6 +16,7 @@ returns c =
       lines = refl;
       counted = ap (λ (n : ℕ). a .play .accepted + n) (counted .accepted-by .ensures .0);
       one = omega (arith, counted .accepted-by .ensures .1);
+      stops = c .is-last .ensures;
     }
 
 pub recorded-spec : {M : Type 1} → statement M

@@ -4,6 +4,7 @@ use mathlib.Core.Logic.{inl, inr}
 use mathlib.Core.Path.{refl, ap, _∙_}
 use Prim.Native.Nat.{ℕ}
 use native.Mathlib.Omega.{arith}
+use lib.ListN.{length}
 use borrow.Author.Needs.{needs}
 use Rattle.recording.specs.Running.{ranRecord, bytesAfterRecord}
 use Rattle.bench.proofs.HeldLaws.{none-held}
@@ -68,6 +69,7 @@ returns-3 c =
         ready = ready .ensures .1;
         turn = inr (
             record {
+              goes-on = (c .before .before .before .before .before .before .before .before .before .before .before .if1 .left, λ none. c .before .before .before .before .before .before .before .before .before .before .if2 .left (ap length (part .part .ensures ∙ none)));
               ran = run .result;
               told = run .ensures .0 ∙ ap (λ (l : List ℕ). ranRecord (a .session .now) l (a .before)) (part .part .ensures);
               session = run .ensures .1 ∙ ap (λ (l : List ℕ). bytesAfterRecord (a .session .now) l (a .before)) (part .part .ensures);
