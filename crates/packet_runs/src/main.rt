@@ -8,7 +8,6 @@ use packets::framing;
 use packets::gates::GatesAnswer;
 use packets::gates::reading;
 use packets::gates::writing;
-use packets::numbers;
 ghost use mathlib.Core.Path.{_≡_};
 ghost use Prim.Native.Nat.{_<_, _≤_};
 ghost use lib.ListN.{length};

@@ -7,11 +7,11 @@ use native.Mathlib.Omega.{arith}
 use lib.Pow.{pow-mono}
 use lib.Dec.{lit≤}
 use lib.ListN.{length, getD}
-use Rattle.packets.specs.Fields.{field}
-use Rattle.packets.specs.Rows.{total, times}
+use Rattle.numbers.specs.Fields.{field}
+use Rattle.numbers.specs.Rows.{total, times}
 use Rattle.packets.specs.Gates.{gateWidths, gateBits, bitsOf}
-use Rattle.packets.proofs.FieldLaws.{field-lt}
-use Rattle.packets.proofs.RowLaws.{total-times}
+use Rattle.numbers.proofs.FieldLaws.{field-lt}
+use Rattle.numbers.proofs.RowLaws.{total-times}
 
 pub total-gate : (distance : ℕ) → 8 ≤ distance → total (gateWidths distance) ≡ gateBits distance
 unfolding total gateWidths

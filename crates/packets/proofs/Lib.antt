@@ -1,6 +1,3 @@
-pub mod FieldLaws
-pub mod RowLaws
-pub mod NumberLaws
 pub mod RefusalLaws
 pub mod FramingLaws
 pub mod GateLaws

@@ -7,15 +7,15 @@ use native.Mathlib.Omega.{arith}
 use borrow.Author.Tests.{lt-ltb, le-ltb, eq-eqb, ne-eqb, ltb-false, eqb-true, not-false}
 use lib.ListN.{length, getD, drop}
 use lib.Seq.{sets, sets-eq}
-use Rattle.packets.specs.Fields.{field}
-use Rattle.packets.specs.Rows.{times, unpack}
+use Rattle.numbers.specs.Fields.{field}
+use Rattle.numbers.specs.Rows.{times, unpack}
 use Rattle.packets.specs.Refusals.{lengthNotForCount, paddingSet, noRoom, refuse, orElse}
 use Rattle.packets.specs.Framing.{lengthOf, headRefusal}
 use Rattle.packets.specs.Gates.{gateType, distanceWidth, gateBytes, gateWidths, gateBits, sizeOf, gateRules, gateRefusal, refusedWith, acceptedWith}
 use Rattle.packets.specs.Reading.{countOf, gatesOf, fieldsRefusal, paddingOf, readRefusal, readAnswer, readInto}
 use Rattle.packets.specs.declared.gates.GatesAnswer.{GatesAnswer}
-use Rattle.packets.proofs.FieldLaws.{field-add, field-lt}
-use Rattle.packets.proofs.RowLaws.{length-unpack, length-times}
+use Rattle.numbers.proofs.FieldLaws.{field-add, field-lt}
+use Rattle.numbers.proofs.RowLaws.{length-unpack, length-times}
 use Rattle.packets.proofs.RefusalLaws.{orElse-first, orElse-then, orElse-stop, orElse-go, refuse-none, accepted, refused}
 use Rattle.packets.proofs.FramingLaws.{Headed, headed}
 use Rattle.packets.proofs.GateLaws.{length-gate}

@@ -9,15 +9,15 @@ use borrow.Author.Tests.{le-ltb, lt-leb, leb-false}
 use lib.ListN.{length, getD, take, drop, length-append, length-drop, take-append-drop}
 use lib.Pow.{pow-pos}
 use lib.Seq.{drop-at, take-at, length-take-le}
-use Rattle.packets.specs.Fields.{field}
-use Rattle.packets.specs.Rows.{total, times, unpack, pack}
+use Rattle.numbers.specs.Fields.{field}
+use Rattle.numbers.specs.Rows.{total, times, unpack, pack}
 use Rattle.packets.specs.Refusals.{refuse, orElse}
 use Rattle.packets.specs.Framing.{typeOf, lengthOf, headRefusal}
 use Rattle.packets.specs.Gates.{gateType, distanceWidth, mostGates, gateBytes, gateWidths, gateBits, bitsOf, sizeOf, paddingBits, gateRefusal}
 use Rattle.packets.specs.Reading.{countOf, gatesOf, fieldsRefusal, paddingOf, readRefusal}
 use Rattle.packets.specs.Writing.{gatesIn, packetWidths, packetValues, written, widthsRefusal, firstRefusal, listRefusal, writeRefusal}
-use Rattle.packets.proofs.FieldLaws.{Bytes, field-lt}
-use Rattle.packets.proofs.RowLaws.{Fit, none, one, unpack-append, unpack-pack, length-unpack, length-times, length-pack, times-suc, round-trip, pack-past}
+use Rattle.numbers.proofs.FieldLaws.{Bytes, field-lt}
+use Rattle.numbers.proofs.RowLaws.{Fit, none, one, unpack-append, unpack-pack, length-unpack, length-times, length-pack, times-suc, round-trip, pack-past}
 use Rattle.packets.proofs.RefusalLaws.{orElse-first, orElse-then, orElse-go, refuse-none}
 use Rattle.packets.proofs.GateLaws.{length-gate, total-gate, bits-gates}
 use Rattle.packets.proofs.ReadingLaws.{Gated, gated, length-gates, may-read}

@@ -2,19 +2,22 @@
 use mathlib.Core.Path.{_≡_, refl, sym, ap, ap₂, _∙_}
 use mathlib.Core.List.{List, [], _∷_, _++_}
 use Prim.Native.Nat.{ℕ, zero, suc, _+_, _-_, _*_, _/_, _%_, _^_, _≤_, _<_}
-use native.Mathlib.Nat.{add-zero}
+use native.Mathlib.Nat.{add-zero, add-assoc}
 use native.Mathlib.Omega.{arith}
 use native.Mathlib.Numerals.{add-one}
 use borrow.Author.Tests.{le-ltb, lt-ltb, lt-leb, le-leb, ltb-false}
 use lib.ListN.{length, getD, drop}
 use lib.Seq.{drop-at, drop-cons, drop-drop, getD-drop}
-use Rattle.packets.specs.Fields.{put}
-use Rattle.packets.specs.Rows.{total, times, pack}
+use Rattle.numbers.specs.Fields.{put}
+use Rattle.numbers.specs.Rows.{total, times, pack}
+use Rattle.numbers.specs.Numbers.{numberAt}
 use Rattle.packets.specs.Refusals.{notWholeGates, tooManyGates, tooWide, noRoom, refuse, orElse}
 use Rattle.packets.specs.Gates.{gateType, distanceWidth, mostGates, gateBytes, gateWidths, bitsOf, sizeOf, paddingBits, gateRules, gateRefusal, refusedWith, acceptedWith}
 use Rattle.packets.specs.Writing.{gatesIn, packetWidths, packetValues, written, widthsRefusal, firstRefusal, listRefusal, writeRefusal, writeAnswer, writeInto}
 use Rattle.packets.specs.declared.gates.GatesAnswer.{GatesAnswer}
-use Rattle.packets.proofs.RowLaws.{total-append, length-times, pack-append, pack-extra}
+use Rattle.numbers.proofs.FieldLaws.{Bytes}
+use Rattle.numbers.proofs.NumberLaws.{number-byte, number-pair}
+use Rattle.numbers.proofs.RowLaws.{total-append, length-times, pack-append, pack-extra}
 use Rattle.packets.proofs.RefusalLaws.{orElse-first, orElse-then, orElse-stop, orElse-go, refuse-none, accepted, refused}
 use Rattle.packets.proofs.GateLaws.{length-gate, bits-gates}
 
@@ -46,11 +49,13 @@ module _ (ws list : List ℕ) (i j w : ℕ) (h : j < length ws) (e : w ≡ getD 
       let d : drop 1 (drop i list) ≡ drop (i + 1) list = drop-drop 1 i list in
       rw (drop-cons ws j 0 h, first-byte, d, add-one j, ← e) (simp (lt-leb (2 ^ w) (getD list i 0) l))
 
--- the rules on the gate at index i
-pub rules-at : (list : List ℕ) (i : ℕ)
-    → gateRefusal (drop i list) ≡ gateRules (getD list (i + 2) 0 * 256 + getD list (i + 3) 0) (getD list (i + 4) 0) (getD list (i + 6) 0) (getD list (i + 8) 0)
+-- the rules on the gate at index i, by its numbers
+pub rules-at : (list : List ℕ) (i : ℕ) → Bytes list
+    → gateRefusal (drop i list) ≡ gateRules (numberAt 2 list (i + 2)) (numberAt 1 list (i + 4)) (numberAt 1 list (i + 6)) (numberAt 1 list (i + 8))
 unfolding gateRefusal
-rules-at list i = simp getD-drop
+rules-at list i h =
+    rw (number-pair list (i + 2) h, number-byte list (i + 4) (h (i + 4)), number-byte list (i + 6) (h (i + 6)), number-byte list (i + 8) (h (i + 8)))
+    (rw (add-assoc i 2 1) (simp getD-drop))
 
 pub list-none : (distance : ℕ) (list : List ℕ) → listRefusal distance list 0 ≡ 0
 unfolding listRefusal

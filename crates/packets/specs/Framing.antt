@@ -3,7 +3,7 @@ use Prim.Native.Nat.{ℕ}
 use mathlib.Core.List.{List}
 use lib.ListN.{length, take}
 use lib.Dec.{ltb}
-use Rattle.packets.specs.Fields.{field}
+use Rattle.numbers.specs.Fields.{field}
 use Rattle.packets.specs.Refusals.{tooShort, wrongType, lengthTooSmall, cutOff, refuse, orElse, unlessRefused}
 
 -- the type, the first 4 bits

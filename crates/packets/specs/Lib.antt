@@ -1,6 +1,3 @@
-pub mod Fields
-pub mod Rows
-pub mod Numbers
 pub mod Refusals
 pub mod Framing
 pub mod Gates

@@ -3,7 +3,7 @@ use Prim.Native.Nat.{ℕ, zero, suc, _/_, _%_, _^_}
 use mathlib.Core.List.{List, [], _∷_, _++_}
 use lib.ListN.{length, getD, drop}
 use lib.Dec.{ltb, leb}
-use Rattle.packets.specs.Rows.{times, pack}
+use Rattle.numbers.specs.Rows.{times, pack}
 use Rattle.packets.specs.Refusals.{notWholeGates, tooManyGates, tooWide, noRoom, refuse, orElse, unlessRefused}
 use Rattle.packets.specs.Gates.{gateType, distanceWidth, mostGates, gateBytes, gateWidths, sizeOf, paddingBits, gateRefusal, refusedWith, acceptedWith}
 use Rattle.packets.specs.declared.gates.GatesAnswer.{GatesAnswer}

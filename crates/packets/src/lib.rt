@@ -1,32 +1,20 @@
-// The packet layer (radio annex): bit fields, byte-aligned numbers, framing, and gate sub-packets both ways. It knows nothing of trains.
+// The packet layer (radio annex): bit fields, framing, and gate sub-packets both ways. It knows nothing of trains.
 //
 // Here are the bit fields of any width up to 32, private to the crate: bits run from the top bit of the first byte, a bit past the end reads as
 // 0, and putting one there does nothing.
 pub mod framing;
 pub mod gates;
-pub mod numbers;
 mod refusals;
 
 ghost use mathlib.Core.Path.{_≡_};
 ghost use Prim.Native.Nat.{_<_, _≤_, _^_};
-ghost use Rattle.packets.specs.Fields.{bitAt, field, withDigit, putBit, put};
-
-fn wide(x: u8) -> u32
-    ensures { λ r. ⌜ r ≡ x ⌝ }
-{
-    x as u32
-}
+ghost use Rattle.numbers.specs.Fields.{bitAt, field, withDigit, putBit, put};
 
 // The bit at position p.
 fn bit_at(s: &[u8], p: usize) -> u32
     ensures { λ r. ⌜ r ≡ bitAt (now (s .entry)) p ⌝ }
 {
-    let i = p / 8;
-    if i < s.len() {
-        (wide(s[i]) >> (7 - p % 8)) % 2
-    } else {
-        0
-    }
+    (numbers::byte_at(s, p / 8) >> (7 - p % 8)) % 2
 }
 
 // The field of `width` bits at bit position `at`, a bit at a time.

@@ -7,7 +7,7 @@ use native.Mathlib.Omega.{arith}
 use borrow.Author.Tests.{leb-true, ltb-true}
 use lib.Dec.{eqb, leb, ltb}
 use lib.ListN.{length, take, drop}
-use Rattle.packets.specs.Numbers.{numberAt}
+use Rattle.numbers.specs.Numbers.{numberAt}
 use Rattle.recording.specs.Kinds.{among, payloadLength}
 use Rattle.recording.specs.Records.{mark, headBytes, longest, kindOf, saidLength, recordLength, isRecord, payloadOf}
 use Rattle.recording.proofs.KindLaws.{both, payload-most}

@@ -9,9 +9,9 @@ use borrow.Author.Tests.{le-leb, lt-leb}
 use lib.Dec.{eqb, leb, ltb}
 use lib.ListN.{length, take, drop, length-take, length-drop}
 use lib.Seq.{getD-take, getD-drop, ext-getD, take-append-seam}
-use Rattle.packets.specs.Fields.{bitAt}
-use Rattle.packets.specs.Numbers.{numberAt}
-use Rattle.packets.proofs.FieldLaws.{field-ext, lt-or-le}
+use Rattle.numbers.specs.Fields.{bitAt}
+use Rattle.numbers.specs.Numbers.{numberAt}
+use Rattle.numbers.proofs.FieldLaws.{field-ext, lt-or-le}
 use Rattle.standing.specs.Standing.{answered, bytesLeft}
 use Rattle.recording.specs.Kinds.{payloadLength, callBy}
 use Rattle.recording.specs.Records.{mark, headBytes, longest, kindOf, saidLength, recordLength, isRecord, payloadOf, callOf}

@@ -5,7 +5,7 @@ use mathlib.Core.List.{List, [], _∷_}
 use Prim.Native.Nat.{ℕ}
 use lib.Dec.{eqb}
 use lib.ListN.{drop}
-use Rattle.packets.specs.Numbers.{numberAt}
+use Rattle.numbers.specs.Numbers.{numberAt}
 use Rattle.trains.specs.declared.kinds.Loco.{Loco}
 use Rattle.trains.specs.declared.kinds.Ticket.{Ticket}
 use Rattle.replay.specs.Demand3.{Call, op, back}

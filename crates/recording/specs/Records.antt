@@ -5,7 +5,7 @@ use mathlib.Core.List.{List}
 use Prim.Native.Nat.{ℕ, _+_, _*_}
 use lib.Dec.{eqb, leb, ltb}
 use lib.ListN.{length, take, drop}
-use Rattle.packets.specs.Numbers.{numberAt}
+use Rattle.numbers.specs.Numbers.{numberAt}
 use Rattle.replay.specs.Demand3.{Call}
 use Rattle.rules.specs.Rules.{Op}
 use Rattle.recording.specs.Kinds.{payloadLength, callBy}

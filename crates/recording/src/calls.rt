@@ -1,6 +1,5 @@
 // The call that a payload makes on a lent session, by its kind.
 use crate::payloads;
-use packets::numbers;
 use rulings::ruling::Answer;
 use session::operations;
 ghost use mathlib.Core.Path.{_≡_};

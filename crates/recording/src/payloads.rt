@@ -1,5 +1,4 @@
 // What stands in a record's payload. Of a record's numbers, here alone one becomes a loco or a ticket.
-use packets::numbers;
 use trains::kinds::Loco;
 use trains::kinds::Ticket;
 ghost use mathlib.Core.Path.{_≡_};

@@ -1,5 +1,4 @@
 // The form of a record: the mark, the kind, the payload's length and the payload.
-use packets::numbers;
 ghost use mathlib.Core.Path.{_≡_};
 ghost use Rattle.recording.specs.Kinds.{payloadLength};
 ghost use Rattle.recording.specs.Records.{kindOf, recordLength, isRecord};

@@ -6,11 +6,11 @@ use mathlib.Core.Path.{_≡_, refl, sym, ap, _∙_}
 use native.Mathlib.Nat.{add-assoc, eq-or-lt-of-le}
 use native.Mathlib.Omega.{arith}
 use lib.ListN.{length, getD}
-use Rattle.packets.specs.Fields.{bitAt, field, putBit, put}
-use Rattle.packets.specs.Numbers.{numberAt, putNumber}
-use Rattle.packets.specs.Rows.{total, unpack, pack}
-use Rattle.packets.proofs.FieldLaws.{field-past, put-past, length-put, length-putBit, bit-putBit, bit-put-out, lt-or-le}
-use Rattle.packets.proofs.RowLaws.{bit-pack-out}
+use Rattle.numbers.specs.Fields.{bitAt, field, putBit, put}
+use Rattle.numbers.specs.Numbers.{numberAt, putNumber}
+use Rattle.numbers.specs.Rows.{total, unpack, pack}
+use Rattle.numbers.proofs.FieldLaws.{field-past, put-past, length-put, length-putBit, bit-putBit, bit-put-out, lt-or-le}
+use Rattle.numbers.proofs.RowLaws.{bit-pack-out}
 use Rattle.rows.specs.Parts.{bits}
 
 -- a number at byte i is the field at that byte's first bit

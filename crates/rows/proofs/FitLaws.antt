@@ -9,10 +9,10 @@ use native.Mathlib.Omega.{arith}
 use lib.Dec.{eqb}
 use lib.ListN.{length, set, length-set}
 use lib.Seq.{getD-set-same, getD-set-other, set-out}
-use Rattle.packets.specs.Fields.{field}
-use Rattle.packets.specs.Rows.{unpack}
-use Rattle.packets.proofs.FieldLaws.{field-lt, lt-or-le}
-use Rattle.packets.proofs.RowLaws.{Fit, none, one}
+use Rattle.numbers.specs.Fields.{field}
+use Rattle.numbers.specs.Rows.{unpack}
+use Rattle.numbers.proofs.FieldLaws.{field-lt, lt-or-le}
+use Rattle.numbers.proofs.RowLaws.{Fit, none, one}
 use Rattle.trains.specs.declared.record.Limit.{Limit}
 use Rattle.trains.specs.declared.record.Limit.the-variants.{Bare, To}
 use Rattle.trains.specs.declared.record.Order.{Order}

@@ -1,5 +1,4 @@
 // The register: 24 rows, one behind the other, from a byte of the lent bytes on. A search looks at the rows in order.
-use packets::numbers;
 use trains::found::Found;
 use trains::kinds::Loco;
 use trains::kinds::Ticket;

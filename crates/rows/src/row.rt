@@ -1,5 +1,4 @@
 // The train record as a row of 67 bytes, both ways: its head, its track and its four orders, one behind the other.
-use packets::numbers;
 use trains::kinds::Loco;
 use trains::kinds::Slot;
 use trains::kinds::Ticket;
@@ -11,7 +10,7 @@ use trains::record::Track;
 use trains::record::Train;
 ghost use mathlib.Core.Path.{_≡_};
 ghost use Prim.Native.Nat.{_+_, _*_, _^_, _<_};
-ghost use Rattle.packets.specs.Rows.{unpack, pack};
+ghost use Rattle.numbers.specs.Rows.{unpack, pack};
 ghost use Rattle.rows.specs.Parts.{bits, placeSizes, positionSizes, trackSizes, orderSizes, ordersSizes, placeBy, limitBy, positionBy, placeOf, trackOf, orderOf, ordersOf};
 ghost use Rattle.rows.specs.Parts.{placeFlag, placeNumber, limitFlag, limitNumber, positionFlag, positionFront, positionRear, placeValues, positionValues, trackValues, orderValues, ordersValues};
 ghost use Rattle.rows.specs.Row.{headSizes, headValues, rowAt, putRow};

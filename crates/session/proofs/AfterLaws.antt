@@ -8,8 +8,8 @@ use Prim.Native.Nat.{ℕ, suc, _^_, _≤_, _<_, min}
 use native.Mathlib.Decide.{ℕ-discrete}
 use native.Mathlib.Omega.{arith}
 use lib.ListN.{length, take}
-use Rattle.packets.proofs.FieldLaws.{lt-or-le}
-use Rattle.packets.proofs.NumberLaws.{number-lt}
+use Rattle.numbers.proofs.FieldLaws.{lt-or-le}
+use Rattle.numbers.proofs.NumberLaws.{number-lt}
 use Rattle.replay.specs.Demand3.{depth}
 use Rattle.store.specs.Effect.{applied}
 use Rattle.store.specs.Layout.{counterAt, sessionBytes}

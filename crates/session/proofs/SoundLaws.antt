@@ -7,7 +7,7 @@ use Prim.Native.Nat.{ℕ}
 use native.Mathlib.Decide.{ℕ-discrete}
 use native.Mathlib.Omega.{arith}
 use lib.ListN.{length}
-use Rattle.packets.proofs.FieldLaws.{Bytes, lt-or-le}
+use Rattle.numbers.proofs.FieldLaws.{Bytes, lt-or-le}
 use Rattle.rows.specs.Register.{rowCount}
 use Rattle.rows.proofs.FitLaws.{Fits, fits-read}
 use Rattle.rows.proofs.RowLaws.{row-zeros}

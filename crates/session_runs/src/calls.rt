@@ -2,7 +2,6 @@
 // for the train in a row, 12 for the counter, the entries kept and the slots; 13 lets a loco request and release again and again.
 use crate::lines;
 use crate::parts;
-use packets::numbers;
 use rulings::ruling::Answer;
 use session::operations;
 use session::questions;

@@ -2,7 +2,6 @@
 // A call: a kind, the bytes of the session that are lent and the length of what follows (2 bytes each), and what follows: the call's
 // numbers, 4 bytes each, high byte first, and behind them the flags. `calls` lists the kinds. A line: the kind, and what was answered.
 use libc::STDIN_FILENO;
-use packets::numbers;
 ghost use mathlib.Core.Path.{_≡_};
 ghost use Prim.Native.Nat.{_<_, _≤_};
 ghost use lib.ListN.{length};

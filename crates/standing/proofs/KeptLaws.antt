@@ -9,7 +9,7 @@ use native.Mathlib.Omega.{arith}
 use borrow.Author.Tests.{le-leb, lt-leb}
 use lib.Dec.{leb}
 use lib.ListN.{length, take}
-use Rattle.packets.proofs.FieldLaws.{lt-or-le}
+use Rattle.numbers.proofs.FieldLaws.{lt-or-le}
 use Rattle.replay.specs.Rules.{accept, refuse}
 use Rattle.replay.specs.Demand3.{Call, op, back, Answer as Told, took, wentBack, refused, State, depth, tooFarBack}
 use Rattle.replay.specs.Demand3.{opAnswer, backAnswer as backTold, ticketDue, judged as outcomeOf}

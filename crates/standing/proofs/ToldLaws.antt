@@ -7,7 +7,7 @@ use native.Mathlib.Decide.{ℕ-discrete}
 use native.Mathlib.Omega.{arith}
 use borrow.Author.Tests.{eq-eqb, ne-eqb}
 use lib.ListN.{length}
-use Rattle.packets.proofs.FieldLaws.{lt-or-le}
+use Rattle.numbers.proofs.FieldLaws.{lt-or-le}
 use Rattle.replay.specs.Demand3.{Call, op, back, took, wentBack, refused}
 use Rattle.store.specs.Layout.{sessionBytes}
 use Rattle.store.specs.View.{keptOf}

@@ -8,9 +8,9 @@ use native.Mathlib.Omega.{arith}
 use borrow.Author.Tests.{lt-ltb, le-ltb}
 use lib.ListN.{length, take, drop}
 use lib.Seq.{set-out}
-use Rattle.packets.specs.Numbers.{numberAt}
-use Rattle.packets.proofs.FieldLaws.{lt-or-le}
-use Rattle.packets.proofs.NumberLaws.{number-lt}
+use Rattle.numbers.specs.Numbers.{numberAt}
+use Rattle.numbers.proofs.FieldLaws.{lt-or-le}
+use Rattle.numbers.proofs.NumberLaws.{number-lt}
 use Rattle.replay.specs.Demand3.{depth}
 use Rattle.replay.specs.Ring.{before, readBack}
 use Rattle.replay.proofs.Rings.{before-in, ring-same}

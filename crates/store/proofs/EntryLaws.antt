@@ -6,7 +6,7 @@ use mathlib.Core.Logic.{⊎-elim, inl, inr}
 use mathlib.Core.Path.{_≡_, refl, ap, _∙_}
 use native.Mathlib.Omega.{arith}
 use lib.ListN.{length, take, drop}
-use Rattle.packets.specs.Numbers.{numberAt, putNumber}
+use Rattle.numbers.specs.Numbers.{numberAt, putNumber}
 use Rattle.replay.specs.Demand3.{depth}
 use Rattle.rows.specs.Register.{rowCount, rowOf}
 use Rattle.rows.specs.Row.{rowBytes, rowAt}

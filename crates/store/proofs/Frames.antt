@@ -6,8 +6,8 @@ use mathlib.Core.Logic.{⊎-elim, _⊎_, inl, inr}
 use mathlib.Core.Path.{_≡_, _∙_}
 use native.Mathlib.Omega.{arith}
 use lib.ListN.{length, getD, set, take, drop}
-use Rattle.packets.specs.Numbers.{numberAt, putNumber}
-use Rattle.packets.proofs.FieldLaws.{Bytes, length-put, bytes-put, bit-put-out, same-byte}
+use Rattle.numbers.specs.Numbers.{numberAt, putNumber}
+use Rattle.numbers.proofs.FieldLaws.{Bytes, length-put, bytes-put, bit-put-out, same-byte}
 use Rattle.rows.specs.Row.{rowBytes, rowAt, putRow}
 use Rattle.rows.proofs.Bytewise.{field-same, bit-of-byte}
 use Rattle.rows.proofs.RowLaws.{row-same, length-put-row, bytes-put-row, byte-apart}

@@ -7,7 +7,7 @@ use native.Mathlib.Decide.{ℕ-discrete}
 use native.Mathlib.Omega.{arith}
 use lib.ListN.{length, getD, set, length-set}
 use lib.Seq.{ext-getD, getD-set-same, getD-set-other}
-use Rattle.packets.proofs.FieldLaws.{lt-or-le}
+use Rattle.numbers.proofs.FieldLaws.{lt-or-le}
 use Rattle.rows.specs.Register.{rowCount, rowOf}
 use Rattle.rows.specs.Row.{rowBytes}
 use Rattle.trains.specs.Kinds.{lastSlot}

@@ -6,8 +6,8 @@ use mathlib.Core.Path.{_≡_, refl, sym, ap, _∙_}
 use native.Mathlib.Nat.{mod-eq-of-lt}
 use native.Mathlib.Omega.{arith}
 use lib.ListN.{length, take}
-use Rattle.packets.specs.Numbers.{numberAt}
-use Rattle.packets.proofs.FieldLaws.{lt-or-le}
+use Rattle.numbers.specs.Numbers.{numberAt}
+use Rattle.numbers.proofs.FieldLaws.{lt-or-le}
 use Rattle.replay.specs.Demand3.{depth}
 use Rattle.replay.specs.Ring.{after, readBack}
 use Rattle.replay.proofs.Rings.{after-in, ring-push}

@@ -6,8 +6,8 @@ use mathlib.Core.Path.{_≡_, refl, _∙_}
 use lib.Dec.{ltb}
 use lib.ListN.{length}
 use lib.Seq.{length-sets}
-use Rattle.packets.specs.Numbers.{numberAt, putNumber}
-use Rattle.packets.proofs.FieldLaws.{length-put}
+use Rattle.numbers.specs.Numbers.{numberAt, putNumber}
+use Rattle.numbers.proofs.FieldLaws.{length-put}
 use Rattle.rows.specs.Register.{rowCount}
 use Rattle.rows.specs.Row.{rowBytes}
 use Rattle.trains.specs.Kinds.{lastSlot}

@@ -7,8 +7,8 @@ use native.Mathlib.Decide.{ℕ-discrete}
 use native.Mathlib.Omega.{arith}
 use lib.ListN.{length, getD, set, take, drop, length-take, length-drop, length-set, List·getD-eq-default}
 use lib.Seq.{sets, length-sets, take-suc, getD-take, getD-drop, getD-set-same, getD-set-other, set-out, ext-getD}
-use Rattle.packets.proofs.FieldLaws.{Bytes, lt-or-le}
-use Rattle.packets.proofs.RowLaws.{sets-append}
+use Rattle.numbers.proofs.FieldLaws.{Bytes, lt-or-le}
+use Rattle.numbers.proofs.RowLaws.{sets-append}
 use Rattle.store.specs.Copied.{copied, Apart}
 
 -- what stands before a run of n bytes at i, or behind it

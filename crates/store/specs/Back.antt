@@ -3,7 +3,7 @@ use mathlib.Core.Bool.{cond}
 use mathlib.Core.List.{List}
 use Prim.Native.Nat.{ℕ, zero, suc, _+_, _-_}
 use lib.Dec.{ltb}
-use Rattle.packets.specs.Numbers.{numberAt}
+use Rattle.numbers.specs.Numbers.{numberAt}
 use Rattle.replay.specs.Demand3.{depth}
 use Rattle.replay.specs.Ring.{before}
 use Rattle.rows.specs.Register.{rowCount}

@@ -4,7 +4,7 @@ use mathlib.Core.Bool.{cond, _&&_}
 use mathlib.Core.List.{List}
 use Prim.Native.Nat.{ℕ, suc, _+_, min}
 use lib.Seq.{sets}
-use Rattle.packets.specs.Numbers.{putNumber}
+use Rattle.numbers.specs.Numbers.{putNumber}
 use Rattle.replay.specs.Demand3.{depth}
 use Rattle.replay.specs.Ring.{after}
 use Rattle.rows.specs.Row.{rowBytes, putRow}

@@ -5,7 +5,7 @@ use mathlib.Core.List.{List, [], _∷_}
 use Prim.Native.Nat.{ℕ, zero, suc, _-_, _%_, min}
 use lib.Dec.{eqb}
 use lib.ListN.{getD, take, drop}
-use Rattle.packets.specs.Numbers.{numberAt}
+use Rattle.numbers.specs.Numbers.{numberAt}
 use Rattle.replay.specs.Demand3.{depth}
 use Rattle.rows.specs.Register.{rowCount, rowOf, isSought}
 use Rattle.rows.specs.declared.register.Sought.{Sought}

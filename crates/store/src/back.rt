@@ -1,7 +1,6 @@
 // Entries undone, the latest first.
 use crate::layout;
 use crate::view;
-use packets::numbers;
 use rows::register;
 use rows::row;
 ghost use mathlib.Core.Path.{_≡_};

@@ -7,7 +7,6 @@ pub mod layout;
 pub mod settled;
 pub mod view;
 
-use packets::numbers;
 use rows::row;
 ghost use mathlib.Core.Path.{_≡_};
 ghost use Prim.Native.Nat.{_^_, _<_};

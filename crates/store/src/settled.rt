@@ -3,7 +3,6 @@ use crate::effect::Change;
 use crate::effect::Effect;
 use crate::layout;
 use crate::view;
-use packets::numbers;
 use rows::register;
 use rows::row;
 use trains::kinds::LAST_SLOT;

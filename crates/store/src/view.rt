@@ -1,7 +1,6 @@
 // What a session's bytes stand for: the numbers of the header, the trains in the rows, and the slots that are taken. Nothing is changed here,
 // and any bytes are read.
 use crate::layout;
-use packets::numbers;
 use rows::register;
 use rows::row;
 use trains::found::Found;

@@ -6,7 +6,7 @@ use mathlib.Core.Path.{_≡_, sym, ap}
 use mathlib.Core.List.{List}
 use lib.ListN.{set}
 use lib.Seq.{set-out}
-use Rattle.packets.specs.Fields.{putBit}
+use Rattle.numbers.specs.Fields.{putBit}
 use Rattle.packets.proofs.put_bit.Statement.{statement}
 use Rattle.packets.proofs.put_bit.Tie as tie
 

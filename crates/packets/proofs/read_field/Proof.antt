@@ -4,8 +4,8 @@ use mathlib.Core.Path.{_≡_, refl, sym, _∙_, ap}
 use borrow.Author.Needs.{needs}
 use native.Mathlib.Omega.{arith}
 use native.Mathlib.Numerals.{add-one}
-use Rattle.packets.specs.Fields.{bitAt, field}
-use Rattle.packets.proofs.FieldLaws.{field-zero, field-suc, field-lt, field-small, bit-lt}
+use Rattle.numbers.specs.Fields.{bitAt, field}
+use Rattle.numbers.proofs.FieldLaws.{field-zero, field-suc, field-lt, field-small, bit-lt}
 use Rattle.packets.proofs.read_field.Statement.{statement}
 use Rattle.packets.proofs.read_field.Tie as tie
 

@@ -4,8 +4,8 @@ use native.Mathlib.Omega.{arith}
 use Prim.Native.Nat.{ℕ, _+_, _*_, _/_, _%_, _^_, _≤_, _<_}
 use mathlib.Core.Path.{_≡_}
 use lib.Pow.{pow-pos, shr-le}
-use Rattle.packets.specs.Fields.{withDigit}
-use Rattle.packets.proofs.FieldLaws.{digit-byte}
+use Rattle.numbers.specs.Fields.{withDigit}
+use Rattle.numbers.proofs.FieldLaws.{digit-byte}
 use Rattle.packets.proofs.with_digit.Statement.{statement}
 use Rattle.packets.proofs.with_digit.Tie as tie
 

@@ -6,8 +6,8 @@ use borrow.Author.Needs.{needs}
 use native.Mathlib.Omega.{arith}
 use native.Mathlib.Numerals.{add-one}
 use lib.ListN.{length}
-use Rattle.packets.specs.Fields.{putBit, put}
-use Rattle.packets.proofs.FieldLaws.{put-zero, put-suc}
+use Rattle.numbers.specs.Fields.{putBit, put}
+use Rattle.numbers.proofs.FieldLaws.{put-zero, put-suc}
 use Rattle.packets.proofs.write_field.Statement.{statement}
 use Rattle.packets.proofs.write_field.Tie as tie
 

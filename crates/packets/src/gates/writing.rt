@@ -4,7 +4,7 @@ use crate::refusals;
 ghost use mathlib.Core.Path.{_≡_};
 ghost use Prim.Native.Nat.{_+_, _*_, _≤_};
 ghost use lib.ListN.{length, drop};
-ghost use Rattle.packets.specs.Rows.{times, pack};
+ghost use Rattle.numbers.specs.Rows.{times, pack};
 ghost use Rattle.packets.specs.Gates.{gateWidths, sizeOf};
 ghost use Rattle.packets.specs.Writing.{written, widthsRefusal, firstRefusal, listRefusal, writeRefusal, writeAnswer, writeInto};
 
@@ -18,7 +18,7 @@ fn widths_refusal(list: &[u8], at: usize, distance: usize) -> u32
     let mut j = 0;
     while j < super::GATE_BYTES {
         let limit = crate::weight(super::piece_width(distance, j));
-        if limit <= crate::wide(list[at + j]) {
+        if limit <= numbers::byte_at(list, at + j) {
             return refusals::TOO_WIDE;
         }
         j += 1;
@@ -35,13 +35,11 @@ fn first_refusal(list: &[u8], at: usize, distance: usize) -> u32
     if widths != refusals::NONE {
         return widths;
     }
-    let number = crate::wide(list[at + 2]) * 256 + crate::wide(list[at + 3]);
-    super::gate_rules(
-        number,
-        crate::wide(list[at + 4]),
-        crate::wide(list[at + 6]),
-        crate::wide(list[at + 8]),
-    )
+    let number = numbers::half_at(list, at + 2);
+    let suffix = numbers::byte_at(list, at + 4);
+    let class = numbers::byte_at(list, at + 6);
+    let whistle = numbers::byte_at(list, at + 8);
+    super::gate_rules(number, suffix, class, whistle)
 }
 
 // The first refusal of the n gates of a list.
@@ -93,7 +91,7 @@ fn put_gate(out: &mut [u8], p: usize, distance: usize, list: &[u8], at: usize)
     let mut j = 0;
     while j < super::GATE_BYTES {
         let w = super::piece_width(distance, j);
-        crate::write_field(out, q, w, crate::wide(list[at + j]));
+        crate::write_field(out, q, w, numbers::byte_at(list, at + j));
         q += w;
         j += 1;
     }

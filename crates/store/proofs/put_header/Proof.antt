@@ -1,6 +1,6 @@
 -- `store::put_header` meets its contract.
 use mathlib.Core.Path.{_∙_}
-use Rattle.packets.specs.Numbers.{putNumber}
+use Rattle.numbers.specs.Numbers.{putNumber}
 use Rattle.store.specs.Layout.{keptAt, headAt}
 use Rattle.store.specs.Settled.{headed}
 use borrow.Author.Needs.{needs}

@@ -5,7 +5,7 @@ use native.Mathlib.Omega.{arith}
 use borrow.Author.Tests.{eq-eqb, ne-eqb, lt-ltb, le-ltb}
 use lib.Dec.{leb}
 use lib.ListN.{length}
-use Rattle.packets.specs.Numbers.{numberAt}
+use Rattle.numbers.specs.Numbers.{numberAt}
 use Rattle.recording.specs.Kinds.{payloadLength}
 use Rattle.recording.specs.Records.{mark, kindOf, saidLength, isRecord}
 use borrow.Author.Needs.{needs}

@@ -3,7 +3,7 @@ use mathlib.Core.Path.{ap, _∙_}
 use Prim.Native.Nat.{_+_}
 use mathlib.Core.List.{[], _∷_}
 use native.Mathlib.Omega.{arith}
-use Rattle.packets.specs.Numbers.{putNumber}
+use Rattle.numbers.specs.Numbers.{putNumber}
 use Rattle.rows.proofs.Bytewise.{put-next, put-done}
 use borrow.Author.Needs.{needs}
 use Rattle.rows.proofs.row.put_position.Statement.{statement}

@@ -5,7 +5,7 @@ use mathlib.Core.Bool.{not}
 use borrow.Author.Tests.{not-true, not-false}
 use native.Mathlib.Omega.{arith}
 use lib.Dec.{eqb}
-use Rattle.packets.proofs.NumberLaws.{number-byte}
+use Rattle.numbers.proofs.NumberLaws.{number-byte}
 use Rattle.trains.specs.Kinds.{lastSlot}
 use Rattle.trains.proofs.RangeLaws.{one-to}
 use Rattle.store.specs.Layout.{bookAt}

@@ -1,6 +1,6 @@
 -- `packets::gates::reading::count_of` meets its contract. Assumes nothing.
 use native.Mathlib.Omega.{arith}
-use Rattle.packets.proofs.FieldLaws.{field-lt}
+use Rattle.numbers.proofs.FieldLaws.{field-lt}
 use borrow.Author.Needs.{needs}
 use Rattle.packets.proofs.gates.reading.count_of.Statement.{statement}
 use Rattle.packets.proofs.gates.reading.count_of.Tie as tie

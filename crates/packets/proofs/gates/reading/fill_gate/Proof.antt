@@ -6,10 +6,10 @@ use native.Mathlib.Nat.{add-zero, add-assoc}
 use native.Mathlib.Omega.{arith}
 use lib.ListN.{length, set, drop, length-set}
 use lib.Seq.{sets}
-use Rattle.packets.specs.Fields.{field}
-use Rattle.packets.specs.Rows.{unpack}
+use Rattle.numbers.specs.Fields.{field}
+use Rattle.numbers.specs.Rows.{unpack}
 use Rattle.packets.specs.Gates.{gateWidths}
-use Rattle.packets.proofs.RowLaws.{fill-step, unpack-nil}
+use Rattle.numbers.proofs.RowLaws.{fill-step, unpack-nil}
 use Rattle.packets.proofs.GateLaws.{length-gate, piece-byte}
 use borrow.Author.Needs.{needs}
 use Rattle.packets.proofs.gates.reading.fill_gate.Statement.{statement}

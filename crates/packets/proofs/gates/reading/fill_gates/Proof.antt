@@ -5,9 +5,9 @@ use mathlib.Core.List.{List}
 use native.Mathlib.Omega.{arith}
 use lib.ListN.{length}
 use lib.Seq.{sets}
-use Rattle.packets.specs.Rows.{times, unpack}
+use Rattle.numbers.specs.Rows.{times, unpack}
 use Rattle.packets.specs.Gates.{gateWidths, gateBits}
-use Rattle.packets.proofs.RowLaws.{fill-row}
+use Rattle.numbers.proofs.RowLaws.{fill-row}
 use Rattle.packets.proofs.GateLaws.{length-gate, total-gate}
 use borrow.Author.Needs.{needs}
 use Rattle.packets.proofs.gates.reading.fill_gates.Statement.{statement}

@@ -2,7 +2,7 @@
 use Prim.Native.Nat.{ℕ, _+_, _-_, _*_, _/_}
 use mathlib.Core.Path.{_≡_, sym, ap, _∙_}
 use native.Mathlib.Omega.{arith}
-use Rattle.packets.specs.Fields.{field}
+use Rattle.numbers.specs.Fields.{field}
 use Rattle.packets.specs.Framing.{lengthOf, headRefusal}
 use Rattle.packets.specs.Gates.{gateType, bitsOf, sizeOf}
 use Rattle.packets.specs.Reading.{countOf, fieldsRefusal, paddingOf}

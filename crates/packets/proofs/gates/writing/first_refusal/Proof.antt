@@ -17,32 +17,23 @@ unfolding firstRefusal
 returns c = let called = c .before .widths-refusal in
     called .ensures ∙ orElse-stop _ _ (λ z. c .if1 .taken (called .ensures ∙ z))
 
-mul-number : tie.Need-mul-number
-mul-number c = omega (arith, c .before .shared-slice-known2 .given (c .before .before .before .before .before .args .at + 2))
-
-add-number : tie.Need-add-number
-add-number c = let at : ℕ = c .before .before .before .before .before .before .before .args .at in
-    omega (arith, c .before .before .before .shared-slice-known2 .given (at + 2), c .before .shared-slice-known3 .given (at + 3))
-
 returns-2 : tie.Need-returns-2
 unfolding firstRefusal
-returns-2 c = let a = c .before .before .before .before .before .before .before .before .before .before .before .before .before .before .args in
-    let none : widthsRefusal (gateWidths (a .distance)) (drop (a .at) (a .list .now)) ≡ 0 = sym (c .before .before .before .before .before .before .before .before .before .before .before .before .widths-refusal .ensures) ∙ c .before .before .before .before .before .before .before .before .before .before .before .if1 .left in
+returns-2 c = let judged = c .before .before .before .before .before .before in
+    let a = judged .before .before .args in
+    let none : widthsRefusal (gateWidths (a .distance)) (drop (a .at) (a .list .now)) ≡ 0 = sym (judged .widths-refusal .ensures) ∙ c .before .before .before .before .before .if1 .left in
     c .gate-rules .ensures
     ∙ rw (
-      c .before .before .before .before .before .before .before .before .before .wide .ensures,
-      c .before .before .before .before .before .before .before .wide2 .ensures,
-      c .before .before .before .before .before .wide3 .ensures,
-      c .before .before .before .wide4 .ensures,
-      c .before .wide5 .ensures,
+      c .before .before .before .before .half-at .ensures,
+      c .before .before .before .byte-at .ensures,
+      c .before .before .byte-at2 .ensures,
+      c .before .byte-at3 .ensures,
     )
-    (sym (orElse-go _ _ none ∙ rules-at (a .list .now) (a .at)))
+    (sym (orElse-go _ _ none ∙ rules-at (a .list .now) (a .at) (λ i. omega (arith, judged .before .shared-slice-known .given i))))
 
 pub first-refusal-spec : {M : Type 1} → statement M
 first-refusal-spec =
     tie.close
     (tie.spec
-    (λ c κs. search needs) returns (λ c. search needs) (λ c. search needs) (λ c κs. search needs) mul-number
-    (λ c. search needs) (λ c. search needs) (λ c κs. search needs) add-number (λ c. search needs) (λ c. search needs)
-    (λ c κs. search needs) (λ c. search needs) (λ c. search needs) (λ c κs. search needs) (λ c. search needs)
-    (λ c. search needs) (λ c κs. search needs) (λ c κs. search needs) returns-2)
+    (λ c κs. search needs) returns (λ c. search needs) (λ c κs. search needs) (λ c. search needs) (λ c κs. search needs)
+    (λ c. search needs) (λ c κs. search needs) (λ c. search needs) (λ c κs. search needs) (λ c κs. search needs) returns-2)

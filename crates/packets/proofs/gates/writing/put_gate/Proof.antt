@@ -5,10 +5,11 @@ use mathlib.Core.List.{List}
 use native.Mathlib.Nat.{add-zero, add-assoc}
 use native.Mathlib.Omega.{arith}
 use lib.ListN.{length, getD, drop}
-use Rattle.packets.specs.Fields.{put}
-use Rattle.packets.specs.Rows.{pack}
+use Rattle.numbers.specs.Fields.{put}
+use Rattle.numbers.specs.Rows.{pack}
 use Rattle.packets.specs.Gates.{gateWidths}
-use Rattle.packets.proofs.RowLaws.{put-step, pack-zero}
+use Rattle.numbers.proofs.NumberLaws.{number-byte}
+use Rattle.numbers.proofs.RowLaws.{put-step, pack-zero}
 use Rattle.packets.proofs.GateLaws.{length-gate}
 use borrow.Author.Needs.{needs}
 use Rattle.packets.proofs.gates.writing.put_gate.Statement.{statement}
@@ -34,17 +35,18 @@ loop-holds c = let a = c .before .before .args in
 
 loop-again : tie.Need-loop-again Inv-loop μ-loop
 loop-again c = let called = c .before .before .write-field in
-    let byte = c .before .before .before .wide in
-    let w = c .before .before .before .before .before .before .piece-width in
-    let l = c .before .before .before .before .before .before .before .before .loop in
-    let a = c .before .before .before .before .before .before .before .before .before .before .before .args in
+    let read = c .before .before .before in
+    let w = read .before .before .piece-width in
+    let l = read .before .before .before .before .loop in
+    let known = read .before .before .before .before .before in
+    let a = known .before .before .args in
     let ws : List ℕ = gateWidths (a .distance) in
     let list : List ℕ = a .list .now in (
       omega arith,
       omega arith,
       called .kept .0 ∙ l .inv .2,
       ap (λ (o : List ℕ). pack o (l .q + w .result) (drop (l .j + 1) ws) (drop (a .at + (l .j + 1)) list))
-          (called .ensures ∙ ap (put (l .out) (l .q) (w .result)) (byte .ensures))
+          (called .ensures ∙ ap (put (l .out) (l .q) (w .result)) (read .byte-at .ensures ∙ number-byte list (a .at + l .j) (omega (arith, known .shared-slice-known .given (a .at + l .j)))))
           ∙ ap (λ (k : ℕ). pack (put (l .out) (l .q) (w .result) (getD list (a .at + l .j) 0)) (l .q + w .result) (drop (l .j + 1) ws) (drop k list))
           (sym (add-assoc (a .at) (l .j) 1))
           ∙ put-step (l .out) list (l .q) ws (a .at + l .j) (l .j) (w .result) (rw length-gate (omega arith)) (omega arith) (w .ensures .0)
@@ -63,6 +65,6 @@ pub put-gate-spec : {M : Type 1} → statement M
 put-gate-spec =
     tie.close
     (tie.spec
-    Inv-loop μ-loop loop-holds (λ c κs. search needs) (λ c. search needs) (λ c. search needs) (λ c κs. search needs)
+    Inv-loop μ-loop loop-holds (λ c κs. search needs) (λ c. search needs) (λ c κs. search needs)
     (λ c κs. search needs) (λ c. search needs) (λ c. search needs) (λ c. search needs) loop-again
     (λ c. c .before .loop .inv .2) returns)

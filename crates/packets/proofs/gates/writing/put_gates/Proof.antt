@@ -4,9 +4,9 @@ use mathlib.Core.Path.{_≡_, refl, sym, ap, _∙_}
 use mathlib.Core.List.{List}
 use native.Mathlib.Omega.{arith}
 use lib.ListN.{length, drop}
-use Rattle.packets.specs.Rows.{times, pack}
+use Rattle.numbers.specs.Rows.{times, pack}
 use Rattle.packets.specs.Gates.{gateWidths, gateBits}
-use Rattle.packets.proofs.RowLaws.{put-row, pack-zero}
+use Rattle.numbers.proofs.RowLaws.{put-row, pack-zero}
 use Rattle.packets.proofs.GateLaws.{length-gate, total-gate}
 use borrow.Author.Needs.{needs}
 use Rattle.packets.proofs.gates.writing.put_gates.Statement.{statement}

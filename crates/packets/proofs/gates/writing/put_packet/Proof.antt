@@ -3,7 +3,7 @@ use Prim.Native.Nat.{ℕ, _+_, _-_, _*_, _/_}
 use mathlib.Core.Path.{_≡_, sym, ap, ap₂, _∙_}
 use mathlib.Core.List.{List}
 use native.Mathlib.Omega.{arith}
-use Rattle.packets.specs.Fields.{put}
+use Rattle.numbers.specs.Fields.{put}
 use Rattle.packets.specs.Gates.{gateType, bitsOf, sizeOf, paddingBits}
 use Rattle.packets.specs.Writing.{gatesIn}
 use Rattle.packets.proofs.WritingLaws.{written-steps}

@@ -4,9 +4,10 @@ use mathlib.Core.Path.{_≡_, sym, ap, _∙_}
 use mathlib.Core.List.{List}
 use native.Mathlib.Nat.{add-zero, add-assoc}
 use native.Mathlib.Omega.{arith}
-use lib.ListN.{length, drop}
+use lib.ListN.{length, getD, drop}
 use Rattle.packets.specs.Gates.{gateWidths}
 use Rattle.packets.specs.Writing.{widthsRefusal}
+use Rattle.numbers.proofs.NumberLaws.{number-byte}
 use Rattle.packets.proofs.GateLaws.{length-gate}
 use Rattle.packets.proofs.WritingLaws.{widths-none, widths-stop, widths-go}
 use borrow.Author.Needs.{needs}
@@ -24,21 +25,28 @@ loop-holds : tie.Need-loop-holds Inv-loop μ-loop
 loop-holds c = let a = c .before .args in
     (omega arith, ap (λ (k : ℕ). widthsRefusal (gateWidths (a .distance)) (drop k (a .list .now))) (add-zero (a .at)))
 
+-- the byte that was read
+byte : (c : tie.After-byte-at Inv-loop μ-loop) → c .byte-at .result ≡ getD (c .before .before .before .before .before .before .args .list .now) (c .before .before .before .before .before .before .args .at + c .before .before .before .before .loop .j) 0
+byte c = let known = c .before .before .before .before .before in
+    let a = known .before .args in
+    let i : ℕ = a .at + c .before .before .before .before .loop .j in
+    c .byte-at .ensures ∙ number-byte (a .list .now) i (omega (arith, known .shared-slice-known .given i))
+
 returns : tie.Need-returns Inv-loop μ-loop
-returns c = let l = c .before .before .before .before .before .before .loop in
-    let a = c .before .before .before .before .before .before .before .before .args in
-    let w = c .before .before .before .before .piece-width in
+returns c = let l = c .before .before .before .before .before .loop in
+    let a = c .before .before .before .before .before .before .before .args in
+    let w = c .before .before .before .piece-width in
     let inside : l .j < length (gateWidths (a .distance)) = rw length-gate (omega arith) in
-    widths-stop (gateWidths (a .distance)) (a .list .now) (a .at + l .j) (l .j) (w .result) inside (w .ensures .0) (omega arith) ∙ l .inv .1
+    widths-stop (gateWidths (a .distance)) (a .list .now) (a .at + l .j) (l .j) (w .result) inside (w .ensures .0) (omega (arith, byte (c .before))) ∙ l .inv .1
 
 loop-again : tie.Need-loop-again Inv-loop μ-loop
-loop-again c = let l = c .before .before .before .before .before .before .loop in
-    let a = c .before .before .before .before .before .before .before .before .args in
-    let w = c .before .before .before .before .piece-width in
+loop-again c = let l = c .before .before .before .before .before .loop in
+    let a = c .before .before .before .before .before .before .before .args in
+    let w = c .before .before .before .piece-width in
     let inside : l .j < length (gateWidths (a .distance)) = rw length-gate (omega arith) in (
       omega arith,
       ap (λ (k : ℕ). widthsRefusal (drop (l .j + 1) (gateWidths (a .distance))) (drop k (a .list .now))) (sym (add-assoc (a .at) (l .j) 1))
-          ∙ widths-go (gateWidths (a .distance)) (a .list .now) (a .at + l .j) (l .j) (w .result) inside (w .ensures .0) (omega arith)
+          ∙ widths-go (gateWidths (a .distance)) (a .list .now) (a .at + l .j) (l .j) (w .result) inside (w .ensures .0) (omega (arith, byte (c .before)))
           ∙ l .inv .1,
     )
 
@@ -54,5 +62,5 @@ pub widths-refusal-spec : {M : Type 1} → statement M
 widths-refusal-spec =
     tie.close
     (tie.spec
-    Inv-loop μ-loop loop-holds (λ c κs. search needs) (λ c κs. search needs) (λ c. search needs) (λ c. search needs)
+    Inv-loop μ-loop loop-holds (λ c κs. search needs) (λ c κs. search needs) (λ c. search needs)
     (λ c κs. search needs) returns (λ c. search needs) (λ c. search needs) loop-again returns-2)

@@ -1,13 +1,19 @@
 // Numbers of 1, 2 and 4 bytes that start at byte i, high byte first, read and put directly. A byte past the end reads as 0, and one that
-// would be put there is dropped.
+// would be put there is dropped. What they mean is a field at a bit position, which `specs` says for every width.
 ghost use mathlib.Core.Path.{_≡_};
 ghost use Prim.Native.Nat.{_%_};
-ghost use Rattle.packets.specs.Numbers.{numberAt, putNumber};
+ghost use Rattle.numbers.specs.Numbers.{numberAt, putNumber};
+
+fn wide(x: u8) -> u32
+    ensures { λ r. ⌜ r ≡ x ⌝ }
+{
+    x as u32
+}
 
 pub fn byte_at(s: &[u8], i: usize) -> u32
     ensures { λ r. ⌜ r ≡ numberAt 1 (now (s .entry)) i ⌝ }
 {
-    if i < s.len() { crate::wide(s[i]) } else { 0 }
+    if i < s.len() { wide(s[i]) } else { 0 }
 }
 
 pub fn half_at(s: &[u8], i: usize) -> u32

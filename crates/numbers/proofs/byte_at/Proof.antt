@@ -1,9 +1,9 @@
--- `packets::numbers::byte_at` meets its contract. Assumes nothing.
+-- `numbers::byte_at` meets its contract. Assumes nothing.
 use mathlib.Core.Path.{sym, _∙_}
-use Rattle.packets.proofs.NumberLaws.{number-byte, number-past}
+use Rattle.numbers.proofs.NumberLaws.{number-byte, number-past}
 use borrow.Author.Needs.{needs}
-use Rattle.packets.proofs.numbers.byte_at.Statement.{statement}
-use Rattle.packets.proofs.numbers.byte_at.Tie as tie
+use Rattle.numbers.proofs.byte_at.Statement.{statement}
+use Rattle.numbers.proofs.byte_at.Tie as tie
 
 returns : tie.Need-returns
 returns c = let a = c .before .before .before .before .args in

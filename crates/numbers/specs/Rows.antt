@@ -1,7 +1,7 @@
 -- A row of fields, one behind the other, given by their widths: read off a list of bytes, and written into one.
 use Prim.Native.Nat.{ℕ, zero, suc, _+_}
 use mathlib.Core.List.{List, [], _∷_, _++_}
-use Rattle.packets.specs.Fields.{field, put}
+use Rattle.numbers.specs.Fields.{field, put}
 
 -- the bits that a row takes
 unfoldable pub total : List ℕ → ℕ

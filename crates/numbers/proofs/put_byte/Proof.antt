@@ -1,12 +1,12 @@
--- `packets::numbers::put_byte` meets its contract. Assumes nothing.
+-- `numbers::put_byte` meets its contract. Assumes nothing.
 use Prim.Native.Nat.{ℕ}
 use mathlib.Core.Path.{sym, ap, _∙_}
 use lib.ListN.{set}
-use Rattle.packets.proofs.FieldLaws.{put-byte}
-use Rattle.packets.proofs.NumberLaws.{number-put-past}
+use Rattle.numbers.proofs.FieldLaws.{put-byte}
+use Rattle.numbers.proofs.NumberLaws.{number-put-past}
 use borrow.Author.Needs.{needs}
-use Rattle.packets.proofs.numbers.put_byte.Statement.{statement}
-use Rattle.packets.proofs.numbers.put_byte.Tie as tie
+use Rattle.numbers.proofs.put_byte.Statement.{statement}
+use Rattle.numbers.proofs.put_byte.Tie as tie
 
 returns : tie.Need-returns
 returns c = let d = c .before .before in

@@ -13,7 +13,7 @@ use lib.Seq.{getD-set-same, getD-set-other, set-out, ext-getD}
 use lib.Pow.{pow-pos, pow-mono, pow-add, high, shr-shr, shr-lt, split, mod-pow-add, mod-mod-pow}
 use lib.Pow.{field as mod-pow-div}
 use native.Mathlib.Numerals.{add-one, one-add}
-use Rattle.packets.specs.Fields.{bitAt, field, withDigit, putBit, put}
+use Rattle.numbers.specs.Fields.{bitAt, field, withDigit, putBit, put}
 
 -- ---- reading
 

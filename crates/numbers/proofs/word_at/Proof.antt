@@ -1,11 +1,11 @@
--- `packets::numbers::word_at` meets its contract: two numbers side by side. Assumes nothing.
+-- `numbers::word_at` meets its contract: two numbers side by side. Assumes nothing.
 use Prim.Native.Nat.{ℕ, _+_, _*_}
 use mathlib.Core.Path.{sym, ap₂, _∙_}
 use native.Mathlib.Omega.{arith}
-use Rattle.packets.proofs.NumberLaws.{number-split, number-past, number-lt}
+use Rattle.numbers.proofs.NumberLaws.{number-split, number-past, number-lt}
 use borrow.Author.Needs.{needs}
-use Rattle.packets.proofs.numbers.word_at.Statement.{statement}
-use Rattle.packets.proofs.numbers.word_at.Tie as tie
+use Rattle.numbers.proofs.word_at.Statement.{statement}
+use Rattle.numbers.proofs.word_at.Tie as tie
 
 mul-result : tie.Need-mul-result
 mul-result c = omega (arith, number-lt 2 (c .before .before .before .args .s .now) (c .before .before .before .args .i))

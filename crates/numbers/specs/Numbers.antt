@@ -1,7 +1,7 @@
 -- Numbers that start at a byte and take whole bytes, high byte first: the fields at 8 times the byte's index.
 use Prim.Native.Nat.{ℕ, _*_}
 use mathlib.Core.List.{List}
-use Rattle.packets.specs.Fields.{field, put}
+use Rattle.numbers.specs.Fields.{field, put}
 
 -- the number of n bytes at byte i; a byte past the end reads as 0
 abbrev pub numberAt : ℕ → List ℕ → ℕ → ℕ

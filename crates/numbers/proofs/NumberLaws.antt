@@ -1,12 +1,12 @@
 -- Laws of byte-aligned numbers, each for any number of bytes. Assumes nothing.
-use mathlib.Core.Path.{_≡_, sym, ap, _∙_}
+use mathlib.Core.Path.{_≡_, ap, ap₂, _∙_}
 use mathlib.Core.List.{List}
 use Prim.Native.Nat.{ℕ, _+_, _*_, _/_, _^_, _≤_, _<_}
 use native.Mathlib.Omega.{arith}
 use lib.ListN.{length, getD}
-use Rattle.packets.specs.Fields.{field, put}
-use Rattle.packets.specs.Numbers.{numberAt, putNumber}
-use Rattle.packets.proofs.FieldLaws.{field-add, field-lt, field-byte, field-past, put-add, put-past, Bytes}
+use Rattle.numbers.specs.Fields.{field, put}
+use Rattle.numbers.specs.Numbers.{numberAt, putNumber}
+use Rattle.numbers.proofs.FieldLaws.{field-add, field-lt, field-byte, field-past, put-add, put-past, Bytes}
 
 -- a number is its first bytes and the number behind them
 pub number-split : (s : List ℕ) (i a b : ℕ) → numberAt (a + b) s i ≡ numberAt a s i * 2 ^ (8 * b) + numberAt b s (i + a)
@@ -26,6 +26,11 @@ number-put s i a b x =
 -- a number of one byte is that byte
 pub number-byte : (s : List ℕ) (i : ℕ) → getD s i 0 < 256 → numberAt 1 s i ≡ getD s i 0
 number-byte s i h = field-byte s i h
+
+-- and one of two bytes is the first times 256 and the second
+pub number-pair : (s : List ℕ) (i : ℕ) → Bytes s → numberAt 2 s i ≡ getD s i 0 * 256 + getD s (i + 1) 0
+number-pair s i h =
+    number-split s i 1 1 ∙ ap₂ (λ (x y : ℕ). x * 256 + y) (number-byte s i (h i)) (number-byte s (i + 1) (h (i + 1)))
 
 -- past the end a number reads as 0, and putting one there does nothing
 pub number-past : (n : ℕ) (s : List ℕ) (i : ℕ) → length s ≤ i → numberAt n s i ≡ 0

@@ -1,12 +1,12 @@
--- `packets::numbers::put_word` meets its contract: two numbers side by side. Assumes nothing.
+-- `numbers::put_word` meets its contract: two numbers side by side. Assumes nothing.
 use Prim.Native.Nat.{ℕ, _/_}
 use mathlib.Core.Path.{sym, ap, _∙_}
 use mathlib.Core.List.{List}
-use Rattle.packets.specs.Numbers.{putNumber}
-use Rattle.packets.proofs.NumberLaws.{number-put, number-put-past}
+use Rattle.numbers.specs.Numbers.{putNumber}
+use Rattle.numbers.proofs.NumberLaws.{number-put, number-put-past}
 use borrow.Author.Needs.{needs}
-use Rattle.packets.proofs.numbers.put_word.Statement.{statement}
-use Rattle.packets.proofs.numbers.put_word.Tie as tie
+use Rattle.numbers.proofs.put_word.Statement.{statement}
+use Rattle.numbers.proofs.put_word.Tie as tie
 
 returns : tie.Need-returns
 returns c = let d = c .before .before .before .before .before .before in

@@ -8,9 +8,9 @@ use native.Mathlib.Numerals.{add-one}
 use native.Mathlib.Omega.{arith}
 use lib.ListN.{length, getD, set, take, drop, length-append, length-take, length-drop}
 use lib.Seq.{sets, ext-getD, getD-take, getD-drop, drop-cons, drop-drop}
-use Rattle.packets.specs.Fields.{bitAt, field, put}
-use Rattle.packets.proofs.FieldLaws.{length-put, bit-put-out, field-put, field-put-out, bit-put-field, field-ext, Bytes, bytes-put, same-byte, same-bytes, lt-or-le}
-use Rattle.packets.specs.Rows.{total, times, unpack, pack}
+use Rattle.numbers.specs.Fields.{bitAt, field, put}
+use Rattle.numbers.proofs.FieldLaws.{length-put, bit-put-out, field-put, field-put-out, bit-put-field, field-ext, Bytes, bytes-put, same-byte, same-bytes, lt-or-le}
+use Rattle.numbers.specs.Rows.{total, times, unpack, pack}
 
 pub length-unpack : (s : List ℕ) (p : ℕ) (ws : List ℕ) → length (unpack s p ws) ≡ length ws
 unfolding unpack
