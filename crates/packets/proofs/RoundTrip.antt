@@ -3,7 +3,7 @@
 use mathlib.Core.Path.{_≡_, refl, sym, ap, ap₂, _∙_, subst}
 use mathlib.Core.List.{List, [], _∷_, _++_}
 use Prim.Native.Nat.{ℕ, zero, suc, _+_, _-_, _*_, _/_, _%_, _^_, _≤_, _<_}
-use native.Mathlib.Nat.{add-zero}
+use native.Mathlib.Nat.{le-trans, mul-le-mul-left}
 use native.Mathlib.Omega.{arith}
 use borrow.Author.Tests.{le-ltb, lt-leb, leb-false}
 use lib.ListN.{length, getD, take, drop, length-append, length-drop, take-append-drop}
@@ -94,19 +94,40 @@ gates-read : (distance : ℕ) (s : List ℕ) → 8 ≤ distance → listRefusal 
 unfolding gatesOf
 gates-read distance s h = list-read distance s 16 (countOf s) h
 
+-- ---- what the header can say
+
+-- its 5 bits say every count up to `most`, and its 7 bits the length of so many gates
+pub record Sayable (distance most : ℕ) : Type 0 where
+  pub wide : 8 ≤ distance
+  pub counts : most ≤ 31
+  pub lengths : sizeOf distance most ≤ 127
+
+-- and no more gates than `most` can be said
+abbrev pub Full : ℕ → ℕ → Type 0
+Full distance most = (n : ℕ) → n ≤ 31 → sizeOf distance n ≤ 127 → n ≤ most
+
+-- so it is with the width and the limit that the bench has
+pub sayable : Sayable distanceWidth mostGates
+sayable = record { wide = omega arith; counts = omega arith; lengths = omega arith }
+
+pub full : Full distanceWidth mostGates
+full n h l = omega arith
+
+-- fewer gates take no more bytes
+size-mono : (distance : ℕ) {m n : ℕ} → m ≤ n → sizeOf distance m ≤ sizeOf distance n
+size-mono distance {m} {n} h = omega (arith, mul-le-mul-left (gateBits distance) h)
+
 -- and the writer takes what was read, given room
-pub write-accepts : (s : List ℕ) (room more : ℕ) → readRefusal distanceWidth s room ≡ 0 → lengthOf s ≤ more
-    → writeRefusal distanceWidth mostGates (gatesOf distanceWidth s) more ≡ 0
-write-accepts s room more e fits =
-    let d : ℕ = distanceWidth in
+pub write-accepts : (distance most : ℕ) → Sayable distance most → Full distance most
+    → (s : List ℕ) (room more : ℕ) → readRefusal distance s room ≡ 0 → lengthOf s ≤ more → writeRefusal distance most (gatesOf distance s) more ≡ 0
+write-accepts d most ok all s room more e fits =
     let g = gated d s room e in
     let list : List ℕ = gatesOf d s in
     let en : gatesIn list ≡ countOf s = count-gates d s in
-    let right : listRefusal d list (gatesIn list) ≡ 0 = ap (listRefusal d list) en ∙ gates-read d s (omega arith) ∙ g .fields in
+    let right : listRefusal d list (gatesIn list) ≡ 0 = ap (listRefusal d list) en ∙ gates-read d s (ok .wide) ∙ g .fields in
     let size : sizeOf d (gatesIn list) ≡ lengthOf s = ap (sizeOf d) en ∙ sym (g .length-right) in
-    sym
-    (may-write d mostGates list more (omega (arith, length-gates d s)) (omega (arith, field-lt s 4 7)) right
-    (subst (λ (n : ℕ). n ≤ more) (sym size) fits))
+    let few : gatesIn list ≤ most = all (gatesIn list) (omega (arith, field-lt s 11 5)) (subst (λ (n : ℕ). n ≤ 127) (sym size) (omega (arith, field-lt s 4 7))) in
+    sym (may-write d most list more (omega (arith, length-gates d s)) few right (subst (λ (n : ℕ). n ≤ more) (sym size) fits))
 
 -- ---- reading what was written
 
@@ -138,16 +159,16 @@ fit-gates distance list (suc n) l e =
     subst (Fit (ws ++ times n ws)) (ap (λ (k : ℕ). take k list ++ drop 9 list) nine ∙ take-append-drop 9 list) (fit-append here rest)
 
 -- a written sub-packet is the row of its values
-values-written : (list o : List ℕ) → Listed distanceWidth mostGates list (length o)
-    → unpack (written distanceWidth list o) 0 (packetWidths distanceWidth (gatesIn list)) ≡ packetValues distanceWidth (gatesIn list) list
+values-written : (d most : ℕ) → Sayable d most → (list o : List ℕ) → Listed d most list (length o)
+    → unpack (written d list o) 0 (packetWidths d (gatesIn list)) ≡ packetValues d (gatesIn list) list
 unfolding written packetWidths packetValues
-values-written list o g =
-    let d : ℕ = distanceWidth in
+values-written d most ok list o g =
     let n : ℕ = gatesIn list in
     let body : Fit (times n (gateWidths d)) list = fit-gates d list n (omega arith) (g .right) in
+    let size : sizeOf d n ≤ 127 = le-trans (size-mono d (g .few)) (ok .lengths) in
     unpack-pack o 0
     (one (omega arith) (one (omega arith) (one (omega arith) (fit-append body (one (pow-pos (paddingBits d n)) none)))))
-    (omega (arith, total-packet d n (omega arith)))
+    (omega (arith, total-packet d n (ok .wide)))
 
 -- a list that ends in one more value, taken apart
 snoc-parts : (xs ys : List ℕ) (x y : ℕ) → length xs ≡ length ys → xs ++ (x ∷ []) ≡ ys ++ (y ∷ []) → (xs ≡ ys) × (x ≡ y)
@@ -159,18 +180,17 @@ snoc-parts (a ∷ xs) (b ∷ ys) x y l e =
     (ap₂ (λ (c : ℕ) (cs : List ℕ). c ∷ cs) (cc) (r .0), r .1)
 
 -- what a written sub-packet says
-pub record Wrote (list s : List ℕ) : Type 0 where
+pub record Wrote (distance : ℕ) (list s : List ℕ) : Type 0 where
   pub typed : typeOf s ≡ gateType
-  pub sized : lengthOf s ≡ sizeOf distanceWidth (gatesIn list)
+  pub sized : lengthOf s ≡ sizeOf distance (gatesIn list)
   pub counted : countOf s ≡ gatesIn list
-  pub gates : gatesOf distanceWidth s ≡ list
-  pub padded : paddingOf distanceWidth s ≡ 0
+  pub gates : gatesOf distance s ≡ list
+  pub padded : paddingOf distance s ≡ 0
 
-wrote-parts : (list s : List ℕ) → length list ≡ gateBytes * gatesIn list
-    → unpack s 0 (packetWidths distanceWidth (gatesIn list)) ≡ packetValues distanceWidth (gatesIn list) list → Wrote list s
+wrote-parts : (d : ℕ) (list s : List ℕ) → 8 ≤ d → length list ≡ gateBytes * gatesIn list
+    → unpack s 0 (packetWidths d (gatesIn list)) ≡ packetValues d (gatesIn list) list → Wrote d list s
 unfolding packetWidths packetValues unpack gatesOf
-wrote-parts list s whole e =
-    let d : ℕ = distanceWidth in
+wrote-parts d list s h whole e =
     let n : ℕ = gatesIn list in
     let ws : List ℕ = times n (gateWidths d) in
     let w : ℕ = paddingBits d n in
@@ -184,14 +204,15 @@ wrote-parts list s whole e =
       sized = cc;
       counted = en;
       gates = ap (λ (k : ℕ). unpack s 16 (times k (gateWidths d))) en ∙ parts .0;
-      padded = ap (λ (k : ℕ). field s (bitsOf d k) (paddingBits d k)) en ∙ ap (λ (p : ℕ). field s p w) (sym (bits-gates d n (omega arith))) ∙ parts .1;
+      padded = ap (λ (k : ℕ). field s (bitsOf d k) (paddingBits d k)) en ∙ ap (λ (p : ℕ). field s p w) (sym (bits-gates d n h)) ∙ parts .1;
     }
 
 -- READING WHAT WAS WRITTEN gives the list again
-pub wrote : (list o : List ℕ) → writeRefusal distanceWidth mostGates list (length o) ≡ 0 → Wrote list (written distanceWidth list o)
-wrote list o e =
-    let g = listed distanceWidth mostGates list (length o) e in
-    wrote-parts list (written distanceWidth list o) (omega arith) (values-written list o g)
+pub wrote : (distance most : ℕ) → Sayable distance most
+    → (list o : List ℕ) → writeRefusal distance most list (length o) ≡ 0 → Wrote distance list (written distance list o)
+wrote d most ok list o e =
+    let g = listed d most list (length o) e in
+    wrote-parts d list (written d list o) (ok .wide) (omega arith) (values-written d most ok list o g)
 
 head-accepted : (s : List ℕ) → 2 ≤ length s → typeOf s ≡ gateType → 2 ≤ lengthOf s → lengthOf s ≤ length s → headRefusal s gateType gateType ≡ 0
 unfolding headRefusal orElse refuse
@@ -203,21 +224,21 @@ head-accepted s two three long whole =
       le-ltb (length s) (lengthOf s) whole,
     )
 
-length-written : (list o : List ℕ) → length (written distanceWidth list o) ≡ length o
+length-written : (distance : ℕ) (list o : List ℕ) → length (written distance list o) ≡ length o
 unfolding written
-length-written list o = length-pack o 0 _ _
+length-written distance list o = length-pack o 0 _ _
 
 -- and the reader takes whatever the writer wrote, given room
-pub read-accepts : (list o : List ℕ) (room : ℕ) → writeRefusal distanceWidth mostGates list (length o) ≡ 0 → length list ≤ room
-    → readRefusal distanceWidth (written distanceWidth list o) room ≡ 0
-read-accepts list o room e fits =
-    let d : ℕ = distanceWidth in
+pub read-accepts : (distance most : ℕ) → Sayable distance most
+    → (list o : List ℕ) (room : ℕ) → writeRefusal distance most list (length o) ≡ 0 → length list ≤ room
+    → readRefusal distance (written distance list o) room ≡ 0
+read-accepts d most ok list o room e fits =
     let s : List ℕ = written d list o in
-    let g = listed d mostGates list (length o) e in
-    let w = wrote list o e in
-    let long : length s ≡ length o = length-written list o in
+    let g = listed d most list (length o) e in
+    let w = wrote d most ok list o e in
+    let long : length s ≡ length o = length-written d list o in
     let fields : fieldsRefusal d s 16 (countOf s) ≡ 0 =
-    sym (gates-read d s (omega arith)) ∙ ap₂ (listRefusal d) (w .gates) (w .counted) ∙ g .right in
+    sym (gates-read d s (ok .wide)) ∙ ap₂ (listRefusal d) (w .gates) (w .counted) ∙ g .right in
     sym
     (may-read d s room
     (head-accepted s (omega arith) (w .typed) (omega arith) (omega arith))
@@ -227,13 +248,12 @@ read-accepts list o room e fits =
     (omega arith))
 
 -- so TWO ACCEPTED SUB-PACKETS with the same gates are the same bytes
-pub one-reading : (s t : List ℕ) (room more : ℕ) → Bytes s → Bytes t → readRefusal distanceWidth s room ≡ 0 → readRefusal distanceWidth t more ≡ 0
-    → gatesOf distanceWidth s ≡ gatesOf distanceWidth t → take (lengthOf s) s ≡ take (lengthOf t) t
-one-reading s t room more hs ht es et same =
-    let d : ℕ = distanceWidth in
+pub one-reading : (distance : ℕ) (s t : List ℕ) (room more : ℕ) → 8 ≤ distance → Bytes s → Bytes t
+    → readRefusal distance s room ≡ 0 → readRefusal distance t more ≡ 0 → gatesOf distance s ≡ gatesOf distance t → take (lengthOf s) s ≡ take (lengthOf t) t
+one-reading d s t room more h hs ht es et same =
     let g = gated d s room es in
     let count : countOf s ≡ countOf t = sym (count-gates d s) ∙ ap gatesIn same ∙ count-gates d t in
     let size : lengthOf s ≡ lengthOf t = g .length-right ∙ ap (sizeOf d) count ∙ sym (gated d t more et .length-right) in
-    sym (write-read d s s room (omega arith) hs hs es (g .head .whole))
+    sym (write-read d s s room h hs hs es (g .head .whole))
     ∙ ap₂ (λ (n : ℕ) (list : List ℕ). take n (written d list s)) size same
-    ∙ write-read d t s more (omega arith) ht hs et (subst (λ (n : ℕ). n ≤ length s) size (g .head .whole))
+    ∙ write-read d t s more h ht hs et (subst (λ (n : ℕ). n ≤ length s) size (g .head .whole))
