@@ -9,10 +9,10 @@ use native.Mathlib.Nat.{min-eq-left, min-eq-right}
 use native.Mathlib.Omega.{arith}
 use lib.ListN.{length, length-append}
 use borrow.Author.Tests.{lt-ltb, le-ltb, eq-eqb, ne-eqb, eqb-true}
-use Rattle.modes.specs.Table.{Transition}
-use Rattle.modes.specs.Next.{those, best, winners, hasPriority, lowest, tieMark, accepted, stays, choose}
-use Rattle.modes.specs.Rows.{kept}
-use Rattle.modes.proofs.Members.{of-those, in-those, some, none}
+use Rattle.transitions.specs.Table.{Transition, those}
+use Rattle.transitions.proofs.Members.{of-those, in-those, some, none}
+use Rattle.modes.specs.Next.{best, winners, hasPriority, lowest, tieMark, accepted, stays, choose}
+use Rattle.modes.specs.Kept.{kept}
 use Rattle.modes.proofs.Least.{order, least-below, least-one, least-more}
 
 pub those-append : (p : Transition → Bool) (xs ys : List Transition) → those p (xs ++ ys) ≡ those p xs ++ those p ys

@@ -9,13 +9,13 @@ use native.Mathlib.Omega.{arith}
 use lib.ListN.{length}
 use borrow.Author.Tests.{eq-eqb, eqb-true}
 use Rattle.modes.specs.declared.Step.{Step}
-use Rattle.modes.specs.Names.{SB, IS}
-use Rattle.modes.specs.Table.{Transition, table}
-use Rattle.modes.specs.Next.{those, isOpen, leavesFrom, opens, best, winners, hasPriority, lowest, tieMark, stays, choose, refuses, outOfRange, nextStep}
-use Rattle.modes.proofs.Members.{of-those, in-those, some, none, two-in, empty}
+use Rattle.transitions.specs.Names.{SB, IS}
+use Rattle.transitions.specs.Table.{Transition, table, those, leavesFrom}
+use Rattle.transitions.proofs.Members.{of-those, in-those, some, none, two-in, empty}
+use Rattle.transitions.proofs.Checked.{Apart, apart-those, first-two, table-checked}
+use Rattle.modes.specs.Next.{isOpen, opens, best, winners, hasPriority, lowest, tieMark, stays, choose, refuses, outOfRange, nextStep}
 use Rattle.modes.proofs.Least.{order, least-below, least-one}
 use Rattle.modes.proofs.Choosing.{some-winner, positive-best, choice-mode, choice-priority, choice-tie, choice-answer, choice-stays, mark-two, two-mark, mark-small}
-use Rattle.modes.proofs.Checked.{Apart, apart-those, first-two, table-checked}
 use Rattle.modes.proofs.Stepping.{taken, next-refused, next-chosen}
 
 -- an open transition of mode m: the table has it, it leaves m, and one of its conditions is set

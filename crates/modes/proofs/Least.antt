@@ -10,7 +10,7 @@ use native.Mathlib.Omega.{arith}
 use lib.Dec.{ltb}
 use lib.ListN.{length}
 use borrow.Author.Tests.{ltb-true, ltb-false}
-use Rattle.modes.specs.Table.{Transition}
+use Rattle.transitions.specs.Table.{Transition}
 use Rattle.modes.specs.Next.{least}
 
 pub order : (a b : ℕ) → (a < b) ⊎ (b ≤ a)

@@ -1,9 +1,6 @@
 pub mod Scanning
-pub mod Members
 pub mod Least
 pub mod Choosing
-pub mod Checked
-pub mod Rows
 pub mod Walking
 pub mod Stepping
 pub mod Laws

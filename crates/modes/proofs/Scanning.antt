@@ -1,7 +1,7 @@
 -- A walk over the flags, and one over the conditions of a row.
 -- Assumes nothing.
-use mathlib.Core.Path.{_≡_, refl}
-use mathlib.Core.Bool.{Bool, true, false, _&&_, false≢true}
+use mathlib.Core.Path.{_≡_}
+use mathlib.Core.Bool.{true, false, _&&_}
 use mathlib.Core.List.{List}
 use Prim.Native.Nat.{ℕ, _+_, _-_, _≤_, _<_}
 use native.Mathlib.Numerals.{add-one}
@@ -9,16 +9,9 @@ use lib.Dec.{leb}
 use lib.ListN.{length, getD, drop, drop-of-length-le}
 use lib.Seq.{drop-cons}
 use borrow.Author.Tests.{eq-eqb, ne-eqb, lt-ltb, le-ltb, leb-true}
+use Rattle.transitions.specs.Rows.{stated, known}
+use Rattle.transitions.proofs.Both.{both-left, both-right}
 use Rattle.modes.specs.Flags.{flagCount, anySet, flagAboveOne}
-use Rattle.modes.specs.Rows.{stated, known}
-
-pub both-left : (s t : Bool) → (s && t) ≡ true → s ≡ true
-both-left true t e = refl
-both-left false t e = e
-
-pub both-right : (s t : Bool) → (s && t) ≡ true → t ≡ true
-both-right true t e = e
-both-right false t e = absurd (false≢true e)
 
 -- the flag at hand is above 1, or it is not, or there is none
 module _ (fs : List ℕ) (i : ℕ) where

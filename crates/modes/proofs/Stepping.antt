@@ -8,13 +8,13 @@ use lib.Dec.{eqb, leb}
 use lib.ListN.{length}
 use lib.Seq.{slice}
 use borrow.Author.Tests.{leb-true, eqb-true, not-false}
-use Rattle.modes.specs.Names.{SB, IS}
-use Rattle.modes.specs.Table.{Transition, table}
+use Rattle.transitions.specs.Names.{SB, IS}
+use Rattle.transitions.specs.Table.{Transition, table, those}
+use Rattle.transitions.specs.Rows.{firstOf}
+use Rattle.transitions.proofs.Both.{both-left, both-right}
+use Rattle.transitions.proofs.Held.{line}
 use Rattle.modes.specs.Flags.{flagCount, wrongCount, flagAboveOne}
-use Rattle.modes.specs.Next.{those, isOpen, opens, choose, modeOutOfRange, refuses, refused, nextStep}
-use Rattle.modes.specs.Rows.{firstOf}
-use Rattle.modes.proofs.Scanning.{both-left, both-right}
-use Rattle.modes.proofs.Rows.{line}
+use Rattle.modes.specs.Next.{isOpen, opens, choose, modeOutOfRange, refuses, refused, nextStep}
 
 neither-left : (s t : Bool) → (s || t) ≡ false → s ≡ false
 neither-left false t e = refl

@@ -9,14 +9,15 @@ use native.Mathlib.Omega.{arith}
 use lib.ListN.{length, getD, take, drop}
 use lib.Seq.{slice, slice-empty, take-suc, drop-append-le, length-take-le}
 use Rattle.modes.specs.declared.Step.{Step}
-use Rattle.modes.specs.Table.{Transition, transitionCount, table}
+use Rattle.transitions.specs.Table.{Transition, transitionCount, table, those}
+use Rattle.transitions.specs.Rows.{rowOf, tableRows, stated, IsRow}
+use Rattle.transitions.proofs.Members.{of-slice}
+use Rattle.transitions.proofs.Checked.{table-checked}
+use Rattle.transitions.proofs.Held.{nowhere, transitionAt, row-at, stated-at, is-row}
 use Rattle.modes.specs.Flags.{anySet}
-use Rattle.modes.specs.Next.{those, isOpen, choose, stays}
-use Rattle.modes.specs.Rows.{rowOf, tableRows, stated, kept, considered, IsRow}
-use Rattle.modes.proofs.Members.{of-slice}
+use Rattle.modes.specs.Next.{isOpen, choose, stays}
+use Rattle.modes.specs.Kept.{kept, considered}
 use Rattle.modes.proofs.Choosing.{walk-more}
-use Rattle.modes.proofs.Checked.{table-checked}
-use Rattle.modes.proofs.Rows.{nowhere, transitionAt, row-at, stated-at, is-row}
 
 -- a row's transition is open, or it is not
 module _ (fs : List ℕ) (s : Step) (row : List ℕ) where

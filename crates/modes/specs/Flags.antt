@@ -4,10 +4,11 @@ use mathlib.Core.List.{List, [], _∷_}
 use Prim.Native.Nat.{ℕ, _-_}
 use lib.Dec.{eqb, ltb}
 use lib.ListN.{length, getD}
+use Rattle.transitions.specs.Table.{conditionCount}
 
--- so many conditions there are, each with a flag of one byte
+-- each condition has a flag of one byte
 abbrev pub flagCount : ℕ
-flagCount = 91
+flagCount = conditionCount
 
 -- is condition n set? Condition n is byte n of the flags, counted from 1
 abbrev pub isSet : List ℕ → ℕ → Bool

@@ -1,5 +1,3 @@
-pub mod Names
-pub mod Table
 pub mod Flags
 pub mod Next
-pub mod Rows
+pub mod Kept

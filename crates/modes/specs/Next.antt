@@ -4,23 +4,14 @@ use mathlib.Core.List.{List, [], _∷_, map, foldr}
 use Prim.Native.Nat.{ℕ, min}
 use lib.Dec.{eqb, leb, ltb}
 use lib.ListN.{length}
-use Rattle.modes.specs.Names.{SB, IS}
-use Rattle.modes.specs.Table.{Transition, table}
+use Rattle.transitions.specs.Names.{SB, IS}
+use Rattle.transitions.specs.Table.{Transition, table, those, leavesFrom}
 use Rattle.modes.specs.Flags.{anySet, wrongCount, flagAboveOne}
 use Rattle.modes.specs.declared.Step.{Step}
-
--- those transitions that pass a test, in their order
-abbrev pub those : (Transition → Bool) → List Transition → List Transition
-those p [] = []
-those p (a ∷ xs) = cond (p a) (a ∷ those p xs) (those p xs)
 
 -- a transition is open when any of its conditions is set
 abbrev pub isOpen : List ℕ → Transition → Bool
 isOpen flags a = anySet flags (a .conditions)
-
--- does it leave mode m?
-abbrev pub leavesFrom : ℕ → Transition → Bool
-leavesFrom m a = eqb (a .leaves) m
 
 -- the open transitions of mode m
 abbrev pub opens : ℕ → List ℕ → List Transition

@@ -1,21 +1,22 @@
 // The mode step (document 01, "Modes"): of the open transitions of a mode, the one of the best priority, by the lowest target.
 mod flags;
-pub mod names;
-mod table;
+mod numbers;
 
-use table::Row;
-use table::Rows;
-use table::index;
-use table::number;
+use numbers::index;
+use numbers::number;
+use transitions::Row;
+use transitions::Rows;
+use transitions::first;
+use transitions::names;
 ghost use mathlib.Core.Path.{_≡_};
-ghost use Prim.Native.Nat.{_+_, _≤_};
+ghost use Prim.Native.Nat.{_≤_};
 ghost use lib.ListN.{length, drop};
 ghost use lib.Seq.{slice};
-ghost use Rattle.modes.specs.Names.{IS};
-ghost use Rattle.modes.specs.Table.{transitionCount, table};
+ghost use Rattle.transitions.specs.Table.{transitionCount, table, those};
+ghost use Rattle.transitions.specs.Rows.{IsRow, tableRows, stated};
 ghost use Rattle.modes.specs.Flags.{flagCount, anySet};
-ghost use Rattle.modes.specs.Next.{accepted, choose, those, isOpen, refuses, nextStep};
-ghost use Rattle.modes.specs.Rows.{IsRow, tableRows, firstOf, stated, kept, considered};
+ghost use Rattle.modes.specs.Next.{accepted, choose, isOpen, refuses, nextStep};
+ghost use Rattle.modes.specs.Kept.{kept, considered};
 
 const OUT_OF_RANGE: u32 = 17;
 
@@ -49,7 +50,7 @@ fn is_open(flags: &[u8], row: &Row) -> bool
     ensures { λ r. ⌜ r ≡ anySet (now (flags .entry)) (stated (drop 2 (now (row .entry)))) ⌝ }
 {
     let mut k = 2;
-    while k < table::WIDTH {
+    while k < transitions::WIDTH {
         let n = index(row[k]);
         if n == 0 {
             return false;
@@ -118,14 +119,6 @@ fn walk(flags: &[u8], rows: &Rows, mode: u32, start: usize, end: usize) -> Step
     best
 }
 
-// Where the rows of mode m start; those of IS + 1 would start behind the last row.
-fn first(m: usize) -> usize
-    requires { ⌜ m ≤ IS + 1 ⌝ }
-    ensures { λ r. ⌜ r ≡ firstOf m ⌝ }
-{
-    index(table::FIRST[m])
-}
-
 // The next mode, its priority and the tie mark; the mode itself with priority 0 where no transition is open.
 pub fn next_mode(mode: u32, flags: &[u8]) -> Step
     ensures { λ r. ⌜ r ≡ nextStep mode (now (flags .entry)) ⌝ }
@@ -138,8 +131,7 @@ pub fn next_mode(mode: u32, flags: &[u8]) -> Step
             tie: 0,
         };
     }
-    let m = mode as usize;
     // only the rows of the one mode are walked; the table is taken once
-    let rows = table::ROWS;
-    walk(flags, &rows, mode, first(m), first(m + 1))
+    let rows = transitions::rows();
+    walk(flags, &rows, mode, first(mode), first(mode + 1))
 }

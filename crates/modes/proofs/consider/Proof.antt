@@ -3,7 +3,7 @@
 use mathlib.Core.Path.{ap, _∙_, sym}
 use lib.ListN.{getD}
 use borrow.Author.Needs.{needs}
-use Rattle.modes.specs.Rows.{kept}
+use Rattle.modes.specs.Kept.{kept}
 use Rattle.modes.proofs.Walking.{considered-open, considered-shut}
 use Rattle.modes.proofs.consider.Statement.{statement}
 use Rattle.modes.proofs.consider.Tie as tie

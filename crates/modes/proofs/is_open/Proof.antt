@@ -6,8 +6,8 @@ use Prim.Native.Nat.{_-_}
 use native.Mathlib.Omega.{arith}
 use lib.ListN.{drop}
 use borrow.Author.Needs.{needs}
+use Rattle.transitions.specs.Rows.{stated, known}
 use Rattle.modes.specs.Flags.{anySet}
-use Rattle.modes.specs.Rows.{stated, known}
 use Rattle.modes.proofs.Scanning.{known-here, known-next, any-fill, any-here, any-next, any-end}
 use Rattle.modes.proofs.is_open.Statement.{statement}
 use Rattle.modes.proofs.is_open.Tie as tie

@@ -5,7 +5,7 @@ use Prim.Native.Nat.{_≤_}
 use native.Mathlib.Nat.{min-eq-left, min-eq-right}
 use native.Mathlib.Omega.{arith}
 use borrow.Author.Tests.{lt-ltb, le-ltb, eq-eqb, ne-eqb}
-use Rattle.modes.specs.Rows.{kept}
+use Rattle.modes.specs.Kept.{kept}
 use borrow.Author.Needs.{needs}
 use Rattle.modes.proofs.keep.Statement.{statement}
 use Rattle.modes.proofs.keep.Tie as tie

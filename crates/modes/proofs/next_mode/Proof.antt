@@ -1,12 +1,10 @@
 -- `modes::next_mode` meets its contract: the rows of the mode stand from one start to the next.
 -- Assumes nothing.
-use mathlib.Core.Path.{refl, _∙_, sym}
+use mathlib.Core.Path.{_∙_, sym}
 use Prim.Native.Nat.{_+_}
 use native.Mathlib.Omega.{arith}
 use borrow.Author.Needs.{needs}
-use Rattle.modes.specs.Table.{table}
-use Rattle.modes.specs.Rows.{tableRows}
-use Rattle.modes.proofs.Rows.{starts-rise, starts-in}
+use Rattle.transitions.proofs.Held.{starts-rise, starts-in}
 use Rattle.modes.proofs.Stepping.{Taken, taken, next-refused, next-walked}
 use Rattle.modes.proofs.next_mode.Statement.{statement}
 use Rattle.modes.proofs.next_mode.Tie as tie
@@ -21,27 +19,29 @@ returns c = next-refused _ _ (sym (c .before .is-refused .ensures) ∙ c .if1 .t
 passed : (c : tie.Else1) → Taken (c .before .before .before .args .mode) (c .before .before .before .args .flags .now)
 passed c = taken _ _ (sym (c .before .is-refused .ensures) ∙ c .if1 .left)
 
+rows-requires : tie.Need-rows-requires
+rows-requires c κs = search needs
+
 first-requires : tie.Need-first-requires
-first-requires c κs = omega (arith, passed (c .before))
+first-requires c κs = search needs
 
 add-first : tie.Need-add-first
-add-first c = search needs
+add-first c = omega (arith, passed (c .before .before .before))
 
 first-requires-2 : tie.Need-first-requires-2
-first-requires-2 c κs = omega (arith, passed (c .before .before))
+first-requires-2 c κs = search needs
 
--- the array is the table's rows, entry for entry
 walk-requires : tie.Need-walk-requires
-unfolding tableRows table
 walk-requires c κs =
-    let m = c .before .before .before .before .before .before .args .mode in
-    let p = passed (c .before .before .before) in
-    let last = starts-in (m + 1) (omega arith) in
-    (p .count, refl, omega (arith, c .before .first .ensures, c .first2 .ensures, starts-rise m (p .high)), omega (arith, c .first2 .ensures))
+    let e = c .before .before .before .before in
+    let m = e .before .before .before .args .mode in
+    let rise = starts-rise m (m + 1) (omega arith) in
+    let last = starts-in (m + 1) in
+    (passed e .count, c .before .before .before .rows .ensures, omega (arith, c .before .first .ensures, c .first2 .ensures), omega (arith, c .first2 .ensures))
 
 returns-2 : tie.Need-returns-2
 returns-2 c =
-    let e = c .before .before .before .before in
+    let e = c .before .before .before .before .before in
     c .walk .ensures
     ∙ next-walked _ _ (sym (e .before .is-refused .ensures) ∙ e .if1 .left) _ _ (c .before .before .first .ensures) (c .before .first2 .ensures)
 
@@ -51,6 +51,7 @@ next-mode-spec =
     (tie.spec
     is-refused-requires
     returns
+    rows-requires
     first-requires
     add-first
     first-requires-2

@@ -5,8 +5,8 @@ use Prim.Native.Nat.{_≤_, _-_}
 use native.Mathlib.Omega.{arith}
 use lib.Seq.{slice}
 use borrow.Author.Needs.{needs}
-use Rattle.modes.specs.Table.{table}
-use Rattle.modes.specs.Next.{those, isOpen, choose}
+use Rattle.transitions.specs.Table.{table, those}
+use Rattle.modes.specs.Next.{isOpen, choose}
 use Rattle.modes.proofs.Walking.{walk-none, walk-step, lent-is-row}
 use Rattle.modes.proofs.walk.Statement.{statement}
 use Rattle.modes.proofs.walk.Tie as tie

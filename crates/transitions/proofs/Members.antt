@@ -8,9 +8,8 @@ use Prim.Native.Nat.{ℕ, zero, suc, _≤_, _<_}
 use native.Mathlib.Omega.{arith}
 use lib.ListN.{length, take, drop}
 use lib.Seq.{slice}
-use Rattle.modes.specs.Table.{Transition}
-use Rattle.modes.specs.Next.{those}
-use Rattle.modes.proofs.Scanning.{both-left, both-right}
+use Rattle.transitions.specs.Table.{Transition, those}
+use Rattle.transitions.proofs.Both.{both-left, both-right}
 
 module _ (p : Transition → Bool) (a : Transition) where
   -- one of those that pass is in the list, and passes
@@ -30,6 +29,25 @@ module _ (p : Transition → Bool) (a : Transition) where
       go : (b : Bool) → p x ≡ b → (a ≡ x) ⊎ List·Memᴰ a xs → (List·Memᴰ a xs → List·Memᴰ a (those p xs)) → List·Memᴰ a (cond b (x ∷ those p xs) (those p xs))
       go true q s f = ⊎-elim (λ r. List·Memᴰ·head r) (λ r. List·Memᴰ·tail (f r)) s
       go false q s f = ⊎-elim (λ r. absurd (false≢true (sym q ∙ sym (ap p r) ∙ e))) f s
+
+-- as many pass, or more, where all that pass one test pass another; and no more than there are
+pub more-pass : (p q : Transition → Bool) → ((a : Transition) → p a ≡ true → q a ≡ true) → (xs : List Transition) → length (those p xs) ≤ length (those q xs)
+more-pass p q f [] = omega arith
+more-pass p q f (x ∷ xs) = go (p x) (q x) (f x) (more-pass p q f xs)
+  where
+    go : (b c : Bool) → (b ≡ true → c ≡ true) → length (those p xs) ≤ length (those q xs) → length (cond b (x ∷ those p xs) (those p xs)) ≤ length (cond c (x ∷ those q xs) (those q xs))
+    go true true e h = omega arith
+    go true false e h = absurd (false≢true (e refl))
+    go false true e h = omega arith
+    go false false e h = h
+
+pub no-more : (p : Transition → Bool) (xs : List Transition) → length (those p xs) ≤ length xs
+no-more p [] = omega arith
+no-more p (x ∷ xs) = go (p x) (no-more p xs)
+  where
+    go : (b : Bool) → length (those p xs) ≤ length xs → length (cond b (x ∷ those p xs) (those p xs)) ≤ length (x ∷ xs)
+    go true h = omega arith
+    go false h = omega arith
 
 -- what is in a stretch of a list is in the list
 of-take : (n : ℕ) (xs : List Transition) {a : Transition} → List·Memᴰ a (take n xs) → List·Memᴰ a xs

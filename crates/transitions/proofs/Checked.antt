@@ -8,12 +8,10 @@ use native.Mathlib.Omega.{arith}
 use lib.Dec.{eqb, leb}
 use lib.ListN.{length}
 use borrow.Author.Tests.{leb-true, eqb-true, eqb-false, not-true, eq-eqb}
-use Rattle.modes.specs.Names.{SB, IS}
-use Rattle.modes.specs.Table.{Transition, transitionCount, table}
-use Rattle.modes.specs.Flags.{flagCount}
-use Rattle.modes.specs.Next.{those}
-use Rattle.modes.proofs.Scanning.{both-left, both-right}
-use Rattle.modes.proofs.Members.{of-those, all, each}
+use Rattle.transitions.specs.Names.{SB, IS}
+use Rattle.transitions.specs.Table.{Transition, transitionCount, conditionCount, table, those}
+use Rattle.transitions.proofs.Both.{both-left, both-right}
+use Rattle.transitions.proofs.Members.{of-those, all, each}
 
 -- is a number from a to b?
 abbrev pub within : ℕ → ℕ → ℕ → Bool
@@ -26,7 +24,7 @@ within-true a b n e = (leb-true a n (both-left (leb a n) (leb n b) e), leb-true 
 abbrev pub sound : Transition → Bool
 sound a =
     within 1 9 (a .priority)
-    && (within SB IS (a .target) && (not (eqb (a .target) (a .leaves)) && all (within 1 flagCount) (a .conditions)))
+    && (within SB IS (a .target) && (not (eqb (a .target) (a .leaves)) && all (within 1 conditionCount) (a .conditions)))
 
 -- do two transitions leave one mode for one target?
 abbrev pub alike : Transition → Transition → Bool
@@ -50,21 +48,21 @@ pub record Checked (a : Transition) : Type 0 where
   pub priority : (1 ≤ a .priority) × (a .priority ≤ 9)
   pub target : (SB ≤ a .target) × (a .target ≤ IS)
   pub moves : a .target ≡ a .leaves → ⊥
-  pub conditions : (n : ℕ) → List·Memᴰ n (a .conditions) → (1 ≤ n) × (n ≤ flagCount)
+  pub conditions : (n : ℕ) → List·Memᴰ n (a .conditions) → (1 ≤ n) × (n ≤ conditionCount)
 
 checked : (a : Transition) → sound a ≡ true → Checked a
 checked a e =
     let priority = within 1 9 (a .priority) in
     let target = within SB IS (a .target) in
     let moves = not (eqb (a .target) (a .leaves)) in
-    let conditions = all (within 1 flagCount) (a .conditions) in
+    let conditions = all (within 1 conditionCount) (a .conditions) in
     let after-priority = both-right priority (target && (moves && conditions)) e in
     let after-target = both-right target (moves && conditions) after-priority in
     record {
       priority = within-true 1 9 (a .priority) (both-left priority (target && (moves && conditions)) e);
       target = within-true SB IS (a .target) (both-left target (moves && conditions) after-priority);
       moves = eqb-false (a .target) (a .leaves) (not-true (eqb (a .target) (a .leaves)) (both-left moves conditions after-target));
-      conditions = λ n h. within-true 1 flagCount n (each (within 1 flagCount) (a .conditions) (both-right moves conditions after-target) n h);
+      conditions = λ n h. within-true 1 conditionCount n (each (within 1 conditionCount) (a .conditions) (both-right moves conditions after-target) n h);
     }
 
 -- no transition of a list leaves the same mode for the same target as a later one

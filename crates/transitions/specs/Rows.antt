@@ -1,14 +1,11 @@
--- How the code holds the table, and what it does with one row. Only private functions cite this. Assumes nothing.
+-- How the code holds the table: a row for each transition, the rows of a mode together. Assumes nothing.
 use mathlib.Core.Bool.{Bool, true, cond, _&&_}
 use mathlib.Core.Path.{_≡_}
 use mathlib.Core.List.{List, [], _∷_, _++_, map}
-use Prim.Native.Nat.{ℕ, min}
+use Prim.Native.Nat.{ℕ}
 use lib.Dec.{eqb, leb, ltb}
-use lib.ListN.{length, getD, take, drop, replicate}
-use Rattle.modes.specs.Table.{Transition, table}
-use Rattle.modes.specs.Flags.{flagCount, anySet}
-use Rattle.modes.specs.Next.{those, accepted}
-use Rattle.modes.specs.declared.Step.{Step}
+use lib.ListN.{length, take, drop, replicate}
+use Rattle.transitions.specs.Table.{Transition, table, conditionCount, those}
 
 -- so many numbers a row has
 abbrev pub rowWidth : ℕ
@@ -34,20 +31,9 @@ stated (n ∷ ns) = cond (eqb n 0) [] (n ∷ stated ns)
 -- do these places name conditions that there are, or none?
 abbrev pub known : List ℕ → Bool
 known [] = true
-known (n ∷ ns) = leb n flagCount && known ns
+known (n ∷ ns) = leb n conditionCount && known ns
 
--- what a row must be for its conditions to be looked up among the flags
+-- what a row must be for its conditions to be looked up
 pub record IsRow (row : List ℕ) : Type 0 where
   pub wide : length row ≡ rowWidth
   pub conditions : known (drop 2 row) ≡ true
-
--- the best step so far, after one more open transition; a priority of 0 is none so far
-unfoldable pub kept : Step → ℕ → ℕ → Step
-kept s target priority =
-    cond (eqb (s .priority) 0) (accepted target priority 0)
-    (cond (ltb priority (s .priority)) (accepted target priority 0)
-    (cond (eqb priority (s .priority)) (accepted (min (s .mode) target) priority 1) s))
-
--- the best step so far, after the transition in a row: it counts where one of its conditions is set
-unfoldable pub considered : List ℕ → Step → List ℕ → Step
-considered flags s row = cond (anySet flags (stated (drop 2 row))) (kept s (getD row 0 0) (getD row 1 0)) s

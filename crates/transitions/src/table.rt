@@ -1,16 +1,9 @@
 // The 80 transitions of document 01, one to a row, the rows of a mode together and in the document's order.
+use crate::Rows;
 use crate::names::*;
-ghost use mathlib.Core.Path.{_≡_};
 
-// A row is the target, the priority and the conditions, filled up with zeros: the longest list has nine.
-pub(crate) const WIDTH: usize = 11;
-
-pub(crate) type Row = [u8; WIDTH];
-
-pub(crate) type Rows = [Row; 80];
-
-// The rows of mode m stand from FIRST[m] up to FIRST[m + 1].
-pub(crate) const FIRST: [u8; 15] = [0, 0, 11, 18, 26, 37, 44, 54, 57, 63, 67, 71, 74, 77, 80];
+// The rows of mode m start at FIRST[m] and end where those of the next mode start.
+pub(crate) const FIRST: [usize; 14] = [0, 0, 11, 18, 26, 37, 44, 54, 57, 63, 67, 71, 74, 77];
 
 pub(crate) const ROWS: Rows = [
     // SB
@@ -107,17 +100,3 @@ pub(crate) const ROWS: Rows = [
     [NL as u8, 2, 55, 0, 0, 0, 0, 0, 0, 0, 0],
     [SF as u8, 1, 52, 0, 0, 0, 0, 0, 0, 0, 0],
 ];
-
-// A number of the table as a number of a step.
-pub(crate) fn number(x: u8) -> u32
-    ensures { λ r. ⌜ r ≡ x ⌝ }
-{
-    x as u32
-}
-
-// A number of the table as a place in the table or the flags.
-pub(crate) fn index(x: u8) -> usize
-    ensures { λ r. ⌜ r ≡ x ⌝ }
-{
-    x as usize
-}

@@ -1,27 +1,26 @@
 -- How the code holds the table: a row for each transition, the rows of a mode together.
 -- Assumes nothing.
 use mathlib.Core.Path.{_≡_, refl, ap, _∙_, sym}
-use mathlib.Core.Bool.{Bool, true, _&&_}
+use mathlib.Core.Bool.{Bool, true}
 use mathlib.Core.List.{List, [], _∷_, map}
 use Prim.Native.Nat.{ℕ, zero, suc, _+_, _≤_, _<_}
 use native.Mathlib.Numerals.{add-one}
 use native.Mathlib.Omega.{arith}
-use lib.Dec.{leb}
+use lib.Dec.{ltb}
 use lib.ListN.{length, getD, drop, List·getD-map}
 use lib.Seq.{slice}
-use borrow.Author.Tests.{leb-true}
-use Rattle.modes.specs.Names.{IS}
-use Rattle.modes.specs.Table.{Transition, transitionCount, table}
-use Rattle.modes.specs.Next.{those, leavesFrom}
-use Rattle.modes.specs.Rows.{rowWidth, rowOf, tableRows, firstOf, stated, known, IsRow}
-use Rattle.modes.proofs.Scanning.{both-left, both-right}
-use Rattle.modes.proofs.Checked.{table-checked}
+use borrow.Author.Tests.{lt-ltb, ltb-true}
+use Rattle.transitions.specs.Names.{IS}
+use Rattle.transitions.specs.Table.{Transition, transitionCount, table, those, leavesFrom}
+use Rattle.transitions.specs.Rows.{rowWidth, rowOf, tableRows, firstOf, stated, known, IsRow}
+use Rattle.transitions.proofs.Members.{more-pass, no-more}
+use Rattle.transitions.proofs.Checked.{table-checked}
 
 -- two functions that agree on each entry of a list, as is computed once, agree at every place of it
 same-at : {A B : Type 0} (f g : A → B) (xs : List A) (d : A) → map f xs ≡ map g xs → f d ≡ g d → (k : ℕ) → f (getD xs k d) ≡ g (getD xs k d)
 same-at f g xs d e z k = sym (List·getD-map f xs k d) ∙ ap (λ l. getD l k (f d)) e ∙ ap (getD (map g xs) k) z ∙ List·getD-map g xs k d
 
--- the modes' numbers, with 0 before and one more behind
+-- the modes' numbers, with 0 before
 abbrev numbers : ℕ → ℕ → List ℕ
 numbers i zero = []
 numbers i (suc n) = i ∷ numbers (suc i) n
@@ -32,10 +31,10 @@ number-at i (suc n) zero h = omega arith
 number-at i (suc n) (suc k) h = number-at (suc i) n k (omega arith) ∙ omega arith
 
 abbrev modes : List ℕ
-modes = numbers 0 15
+modes = numbers 0 14
 
-mode-at : (m : ℕ) → m ≤ IS + 1 → getD modes m 0 ≡ m
-mode-at m h = omega (arith, number-at 0 15 m (omega arith))
+mode-at : (m : ℕ) → m ≤ IS → getD modes m 0 ≡ m
+mode-at m h = omega (arith, number-at 0 14 m (omega arith))
 
 -- where the rows of each mode start
 unfoldable pub firsts : List ℕ
@@ -45,7 +44,7 @@ first-none : firstOf 0 ≡ 0
 unfolding firstOf table
 first-none = refl
 
-pub first-at : (starts : List ℕ) → starts ≡ firsts → (m : ℕ) → m ≤ IS + 1 → getD starts m 0 ≡ firstOf m
+pub first-at : (starts : List ℕ) → starts ≡ firsts → (m : ℕ) → m ≤ IS → getD starts m 0 ≡ firstOf m
 unfolding firsts
 first-at starts e m h =
     ap (λ (l : List ℕ). getD l m 0) e
@@ -53,29 +52,24 @@ first-at starts e m h =
     ∙ List·getD-map firstOf modes m 0
     ∙ ap firstOf (mode-at m h)
 
--- the starts do not fall, and lie in the table
-unfoldable placed : ℕ → Bool
-placed m = leb (firstOf m) (firstOf (suc m)) && leb (firstOf m) transitionCount
+-- the starts do not fall, and lie in the table; behind the last mode stands nothing
+lower : (m n : ℕ) → m ≤ n → (a : Transition) → ltb (a .leaves) m ≡ true → ltb (a .leaves) n ≡ true
+lower m n h a e = lt-ltb (a .leaves) n (omega (arith, ltb-true (a .leaves) m e))
 
-all-placed : map placed modes ≡ map (λ _. true) modes
-unfolding placed firstOf table
-all-placed = refl
+pub starts-rise : (m n : ℕ) → m ≤ n → firstOf m ≤ firstOf n
+unfolding firstOf
+starts-rise m n h = more-pass (λ a. ltb (a .leaves) m) (λ a. ltb (a .leaves) n) (lower m n h) table
 
-none-placed : placed 0 ≡ true
-unfolding placed firstOf table
-none-placed = refl
+pub starts-in : (m : ℕ) → firstOf m ≤ transitionCount
+unfolding firstOf
+starts-in m = omega (arith, no-more (λ a. ltb (a .leaves) m) table, table-checked .eighty)
 
-placed-at : (m : ℕ) → m ≤ IS + 1 → (leb (firstOf m) (firstOf (suc m)) && leb (firstOf m) transitionCount) ≡ true
-unfolding placed
-placed-at m h = ap placed (sym (mode-at m h)) ∙ same-at placed (λ _. true) modes 0 all-placed none-placed m
+last-start : firstOf (IS + 1) ≡ transitionCount
+unfolding firstOf table
+last-start = refl
 
-pub starts-rise : (m : ℕ) → m ≤ IS → firstOf m ≤ firstOf (m + 1)
-starts-rise m h =
-    rw (add-one m)
-    (leb-true (firstOf m) (firstOf (suc m)) (both-left (leb (firstOf m) (firstOf (suc m))) (leb (firstOf m) transitionCount) (placed-at m (omega arith))))
-
-pub starts-in : (m : ℕ) → m ≤ IS + 1 → firstOf m ≤ transitionCount
-starts-in m h = leb-true (firstOf m) transitionCount (both-right (leb (firstOf m) (firstOf (suc m))) (leb (firstOf m) transitionCount) (placed-at m h))
+pub start-behind : (m : ℕ) → IS < m → transitionCount ≡ firstOf m
+start-behind m h = omega (arith, last-start, starts-rise (IS + 1) m (omega arith), starts-in m)
 
 -- between two starts stand the transitions of a mode
 abbrev leaving : ℕ → List Transition
@@ -94,7 +88,7 @@ line-none = refl
 
 pub line : (m : ℕ) → m ≤ IS → those (leavesFrom m) table ≡ slice (firstOf m) (firstOf (m + 1)) table
 line m h =
-    let e = mode-at m (omega arith) in
+    let e = mode-at m h in
     ap leaving (sym e) ∙ same-at leaving stretch modes 0 lines line-none m ∙ ap stretch e ∙ ap (λ n. slice (firstOf m) (firstOf n) table) (sym (add-one m))
 
 -- no transition, for the places that the table does not have

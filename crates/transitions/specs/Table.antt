@@ -1,7 +1,9 @@
 -- The transitions between modes (document 000, A1.4), as document 01 writes them. Assumes nothing.
+use mathlib.Core.Bool.{Bool, cond}
 use mathlib.Core.List.{List, [], _∷_, _++_, map}
 use Prim.Native.Nat.{ℕ}
-use Rattle.modes.specs.Names.{SB, SR, LS, FS, OV, OS, TR, PT, RV, SH, NL, SF, IS}
+use lib.Dec.{eqb}
+use Rattle.transitions.specs.Names.{SB, SR, LS, FS, OV, OS, TR, PT, RV, SH, NL, SF, IS}
 
 -- a transition leaves a mode for a target when any of its conditions is set; priority 1 is the highest
 pub record Transition : Type 0 where
@@ -22,6 +24,10 @@ from mode line = map (λ (t : ℕ → Transition). t mode) line
 abbrev pub transitionCount : ℕ
 transitionCount = 80
 
+-- so many conditions there are, numbered from 1
+abbrev pub conditionCount : ℕ
+conditionCount = 91
+
 -- the thirteen lines of document 01
 unfoldable pub table : List Transition
 table =
@@ -38,3 +44,12 @@ table =
     ++ from NL (to SB (82 ∷ []) 3 ∷ to SF (51 ∷ []) 2 ∷ to IS (2 ∷ []) 1 ∷ [])
     ++ from SF (to SB (79 ∷ []) 3 ∷ to NL (54 ∷ []) 2 ∷ to IS (2 ∷ []) 1 ∷ [])
     ++ from IS (to SB (80 ∷ []) 3 ∷ to NL (55 ∷ []) 2 ∷ to SF (52 ∷ []) 1 ∷ [])
+
+-- those transitions that pass a test, in their order
+abbrev pub those : (Transition → Bool) → List Transition → List Transition
+those p [] = []
+those p (a ∷ xs) = cond (p a) (a ∷ those p xs) (those p xs)
+
+-- does it leave mode m?
+abbrev pub leavesFrom : ℕ → Transition → Bool
+leavesFrom m a = eqb (a .leaves) m

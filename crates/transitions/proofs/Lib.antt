@@ -1,0 +1,4 @@
+pub mod Both
+pub mod Members
+pub mod Checked
+pub mod Held

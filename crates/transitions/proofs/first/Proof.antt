@@ -1,0 +1,25 @@
+-- `transitions::first` meets its contract: the array has the start of each mode's rows, and no row stands behind the last mode's.
+-- Assumes nothing.
+use mathlib.Core.Path.{refl}
+use borrow.Author.Needs.{needs}
+use Rattle.transitions.specs.Table.{table}
+use Rattle.transitions.specs.Rows.{firstOf}
+use Rattle.transitions.proofs.Held.{firsts, first-at, start-behind}
+use Rattle.transitions.proofs.first.Statement.{statement}
+use Rattle.transitions.proofs.first.Tie as tie
+
+returns : tie.Need-returns
+returns c = start-behind _ (c .if1 .taken)
+
+mul-result : tie.Need-mul-result
+mul-result c = search needs
+
+array-read-result : tie.Need-array-read-result
+array-read-result c = search needs
+
+returns-2 : tie.Need-returns-2
+unfolding firsts firstOf table
+returns-2 c = first-at _ refl (c .before .args .mode) (c .if1 .left)
+
+pub first-spec : {M : Type 1} → statement M
+first-spec = tie.close (tie.spec returns mul-result array-read-result returns-2)
