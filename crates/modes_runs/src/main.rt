@@ -1,6 +1,6 @@
 // Prints the mode step of every mode for no flags, for each single flag and for all flags set, some steps with two flags, steps
 // that are refused, and frame ages. A line is what was asked, the answer's number and its values.
-use modes::names::*;
+use transitions::names::*;
 ghost use mathlib.Core.Path.{_≡_};
 ghost use lib.ListN.{length};
 

@@ -9,7 +9,7 @@ use Rattle.packets.specs.Refusals.{refuse, orElse, unlessRefused}
 use Rattle.packets.specs.Framing.{headRefusal}
 use Rattle.packets.specs.Gates.{gateWidths, gateRules, gateRefusal}
 use Rattle.packets.specs.Reading.{gatesOf, fieldsRefusal, readRefusal, readAnswer, readInto}
-use Rattle.modes.specs.Table.{table as transitions}
+use Rattle.transitions.specs.Table.{table as transitions}
 use Rattle.modes.specs.Next.{choose, refuses, nextStep}
 use Rattle.trains.specs.Found.{first, isFound, orElse as orElseFound}
 use Rattle.trains.specs.Ranges.{oneTo, isPosition, isPlace, placeOf}

@@ -2,7 +2,7 @@
 -- has too: the bytes of a sub-packet, the first ticket and slot of an empty session, the steps that lead to an end.
 use mathlib.Core.List.{List, [], _∷_, _++_}
 use Prim.Native.Nat.{ℕ, _/_, _%_}
-use Rattle.modes.specs.Names.{LS, FS, OV, TR, IS}
+use Rattle.transitions.specs.Names.{LS, FS, OV, TR, IS}
 use Rattle.trains.specs.declared.kinds.Loco.{Loco}
 use Rattle.trains.specs.declared.kinds.Ticket.{Ticket}
 use Rattle.rules.specs.Rules.{Op, request, flags, position, authority, danger, sos}

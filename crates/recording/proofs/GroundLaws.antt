@@ -7,7 +7,7 @@ use native.Mathlib.Omega.{arith}
 use lib.Dec.{eqb, ltb}
 use lib.ListN.{length}
 use Rattle.modes.specs.Next.{nextStep, choose, refuses, refused, opens}
-use Rattle.modes.specs.Table.{Transition}
+use Rattle.transitions.specs.Table.{Transition}
 use Rattle.modes.specs.declared.Step.{Step}
 use Rattle.trains.specs.Authority.{endOf}
 use Rattle.trains.specs.Kinds.{locoInRange}

@@ -3,7 +3,7 @@ use mathlib.Core.Bool.{cond}
 use mathlib.Core.List.{List, [], _∷_}
 use Prim.Native.Nat.{ℕ}
 use lib.Dec.{eqb}
-use Rattle.modes.specs.Names.{SB, SR, LS, FS, OV, OS, TR, PT}
+use Rattle.transitions.specs.Names.{SB, SR, LS, FS, OV, OS, TR, PT}
 
 -- a mode and its row class
 pub record Row : Type 0 where

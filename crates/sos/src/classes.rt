@@ -7,10 +7,10 @@ fn class_in_override(left: u32) -> u32
     ensures { λ r. ⌜ r ≡ classInOverride left ⌝ }
 {
     match left {
-        modes::names::SB => 5,
-        modes::names::OS => 5,
-        modes::names::FS => 6,
-        modes::names::PT => 9,
+        transitions::names::SB => 5,
+        transitions::names::OS => 5,
+        transitions::names::FS => 6,
+        transitions::names::PT => 9,
         _ => 0,
     }
 }
@@ -20,13 +20,13 @@ pub fn class_of(mode: u32, left: u32) -> u32
     ensures { λ r. ⌜ r ≡ classOf mode left ⌝ }
 {
     match mode {
-        modes::names::SR => 1,
-        modes::names::LS => 2,
-        modes::names::OS => 3,
-        modes::names::FS => 4,
-        modes::names::OV => class_in_override(left),
-        modes::names::TR => 7,
-        modes::names::PT => 8,
+        transitions::names::SR => 1,
+        transitions::names::LS => 2,
+        transitions::names::OS => 3,
+        transitions::names::FS => 4,
+        transitions::names::OV => class_in_override(left),
+        transitions::names::TR => 7,
+        transitions::names::PT => 8,
         _ => 0,
     }
 }

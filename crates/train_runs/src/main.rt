@@ -1,6 +1,5 @@
 // Prints the row class of each mode and mode left, each cell, what each measure gives to L1 and L2, ends of authority, a train's
 // orders, and a register's searches. A line is what was asked and the answer.
-use modes::names;
 use rows::register;
 use rows::row;
 use sos::classes;
@@ -14,6 +13,7 @@ use trains::kinds::Ticket;
 use trains::record::Limit;
 use trains::record::Place;
 use trains::record::Train;
+use transitions::names;
 
 const STANDARD_OUTPUT: i32 = 1;
 

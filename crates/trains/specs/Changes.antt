@@ -3,7 +3,7 @@ use mathlib.Core.Bool.{cond}
 use mathlib.Core.List.{List}
 use Prim.Native.Nat.{ℕ}
 use lib.Dec.{eqb}
-use Rattle.modes.specs.Names.{OV}
+use Rattle.transitions.specs.Names.{OV}
 use Rattle.trains.specs.declared.record.Place.{Place}
 use Rattle.trains.specs.declared.record.Position.the-variants.{Between}
 use Rattle.trains.specs.declared.record.Order.{Order}

@@ -53,7 +53,7 @@ impl Train {
     fn danger_stop(self) -> Place
         ensures { λ r. ⌜ r ≡ dangerStop self ⌝ }
     {
-        if self.mode == modes::names::OV {
+        if self.mode == transitions::names::OV {
             return Place::Nowhere;
         }
         let track = self.track;

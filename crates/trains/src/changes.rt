@@ -73,7 +73,7 @@ impl Train {
     pub fn with_mode(mut self, mode: u32) -> Train
         ensures { λ r. ⌜ r ≡ withMode self mode ⌝ }
     {
-        if mode == modes::names::OV {
+        if mode == transitions::names::OV {
             self.left = self.mode;
         } else {
             self.left = 0;

@@ -102,7 +102,7 @@ impl Train {
     pub fn fresh(loco: Loco, ticket: Ticket, start: Slot, slots: u32) -> Train
         ensures { λ r. ⌜ r ≡ freshTrain loco ticket start slots ⌝ }
     {
-        Train::plain(loco, ticket, start, slots, modes::names::SB)
+        Train::plain(loco, ticket, start, slots, transitions::names::SB)
     }
 
     pub fn is_empty(self) -> bool
