@@ -1,9 +1,9 @@
--- Laws of the slot book: slots marked in a session's bytes are slots marked in its book.
+-- Laws of the slot book: slots marked in it, the book in a session's bytes, and a slot that is taken.
 use Prim.Native.Nat.{ℕ, zero, suc, _+_, _-_, _≤_, _<_}
 use mathlib.Core.Bool.{Bool, true, false, cond, not}
 use mathlib.Core.List.{List}
 use mathlib.Core.Logic.{⊎-elim, inl, inr}
-use mathlib.Core.Path.{_≡_, refl, sym, ap, _∙_}
+use mathlib.Core.Path.{_≡_, refl, sym, _∙_}
 use native.Mathlib.Decide.{ℕ-discrete}
 use native.Mathlib.Omega.{arith}
 use lib.Dec.{eqb}
@@ -14,9 +14,8 @@ use Rattle.trains.specs.Ranges.{oneTo}
 use Rattle.trains.proofs.RangeLaws.{one-to}
 use Rattle.store.specs.Effect.{slotMarked, marked}
 use Rattle.store.specs.Layout.{bookAt, rowsAt}
-use Rattle.store.specs.Settled.{bookMarked}
 use Rattle.store.specs.View.{bookOf, isTaken}
-use Rattle.store.proofs.Stretches.{Outside, sets-out, sets-in, sets-like, stretch-at, length-stretch}
+use Rattle.store.proofs.Stretches.{sets-out, sets-in, sets-like, stretch-at, length-stretch}
 
 -- ---- the book by itself
 
@@ -102,48 +101,6 @@ module _ (bs : List ℕ) (room : rowsAt ≤ length bs) where
       at k l (no ne) =
           getD-set-other bs (bookAt + j) (bookAt + k) mark 0 (λ e. ne (omega arith))
           ∙ sym (getD-set-other (bookOf bs) j k mark 0 ne ∙ stretch-at bs lastSlot bookAt k l)
-
-  -- a slot that is one of the book's marked
-  pub slot-stored : (slot mark : ℕ) → oneTo lastSlot slot ≡ true → set bs (bookAt + (slot - 1)) mark ≡ bookMarked bs slot 1 mark
-  unfolding bookMarked marked slotMarked
-  slot-stored slot mark e =
-      let r : (1 ≤ slot) × (slot ≤ lastSlot) = one-to lastSlot slot e in
-      rw e (book-byte (slot - 1) mark (omega arith))
-
-  -- and one that is not
-  pub slot-passed : (slot mark : ℕ) → oneTo lastSlot slot ≡ false → bs ≡ bookMarked bs slot 1 mark
-  unfolding bookMarked marked slotMarked
-  slot-passed slot mark e = rw e book-same
-
-  pub book-marked-zero : (slot mark : ℕ) → bookMarked bs slot 0 mark ≡ bs
-  unfolding bookMarked
-  book-marked-zero slot mark = ap (sets bs bookAt) (marked-zero (bookOf bs) slot mark) ∙ sym book-same
-
-  pub book-marked-past : (slot n mark : ℕ) → lastSlot < slot → bookMarked bs slot n mark ≡ bs
-  unfolding bookMarked
-  book-marked-past slot n mark h = ap (sets bs bookAt) (marked-past (bookOf bs) slot n mark h) ∙ sym book-same
-
-  -- one slot, and the rest
-  pub book-marked-suc : (slot n mark : ℕ) → bookMarked (bookMarked bs slot 1 mark) (suc slot) n mark ≡ bookMarked bs slot (suc n) mark
-  unfolding bookMarked
-  book-marked-suc slot n mark =
-      let b : List ℕ = marked (bookOf bs) slot 1 mark in
-      let lb : length b ≡ lastSlot = length-marked (bookOf bs) slot 1 mark ∙ length-book in
-      ap (λ (x : List ℕ). sets (sets bs bookAt b) bookAt (marked x (suc slot) n mark)) (book-back b lb)
-      ∙ book-twice b (marked b (suc slot) n mark) lb (length-marked b (suc slot) n mark ∙ lb)
-      ∙ ap (sets bs bookAt) (sym (marked-suc (bookOf bs) slot n mark))
-
-  -- the book after it
-  pub book-marked : (slot n mark : ℕ) → bookOf (bookMarked bs slot n mark) ≡ marked (bookOf bs) slot n mark
-  unfolding bookMarked
-  book-marked slot n mark = book-back (marked (bookOf bs) slot n mark) (length-marked (bookOf bs) slot n mark ∙ length-book)
-
-  -- all else stays
-  pub book-marked-out : (slot n mark k : ℕ) → Outside bookAt lastSlot k → getD (bookMarked bs slot n mark) k 0 ≡ getD bs k 0
-  unfolding bookMarked
-  book-marked-out slot n mark k o =
-      let lb : length (marked (bookOf bs) slot n mark) ≡ lastSlot = length-marked (bookOf bs) slot n mark ∙ length-book in
-      sets-out bs bookAt (marked (bookOf bs) slot n mark) k (⊎-elim (λ a. inl a) (λ a. inr (omega arith)) o)
 
 -- ---- a slot that is taken
 

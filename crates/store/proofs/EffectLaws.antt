@@ -1,23 +1,20 @@
--- Laws of effects on the view: what an effect changes and what it leaves, and that undoing what was saved gives the view back.
+-- Laws of effects on the view: what an effect changes and what it leaves.
 use Prim.Native.Nat.{ℕ, zero, suc, _+_, _-_, _≤_, _<_}
 use mathlib.Core.Bool.{Bool, true, false, cond, not, _&&_}
 use mathlib.Core.List.{List}
 use mathlib.Core.Logic.{⊎-elim, _⊎_, inl, inr, _≢_}
 use mathlib.Core.Path.{_≡_, refl, ap, _∙_}
-use native.Mathlib.Decide.{ℕ-discrete}
 use native.Mathlib.Omega.{arith}
 use lib.Dec.{eqb}
 use lib.ListN.{length, getD, set, length-set}
-use lib.Seq.{ext-getD, getD-set-same, getD-set-other}
-use Rattle.numbers.proofs.FieldLaws.{lt-or-le}
+use lib.Seq.{getD-set-same, getD-set-other}
+use Rattle.packets.proofs.FieldLaws.{lt-or-le}
 use Rattle.trains.specs.Kinds.{lastSlot}
 use Rattle.trains.specs.Ranges.{oneTo}
 use Rattle.trains.specs.Record.{blankTrain}
-use Rattle.trains.specs.declared.record.Train.{Train}
 use Rattle.trains.proofs.RangeLaws.{one-to}
 use Rattle.store.specs.declared.effect.Effect.{Effect}
 use Rattle.store.specs.Effect.{slotMarked, marked, applied}
-use Rattle.store.specs.Log.{saved, undone}
 use Rattle.store.specs.View.{View, rowIn, isTaken}
 use Rattle.store.proofs.BookLaws.{length-marked, length-slot-marked}
 
@@ -107,47 +104,3 @@ marked-run book slot (suc n) mark other room e a b =
     ∙ ap (λ (x : ℕ). getD (slotMarked book x mark) (other - 1) 0) same
     ∙ marked-here book other mark e room)
     (lt-or-le slot other)
-
--- ---- undone
-
--- two rows stored, and put back
-rows-back : (rows : List Train) (i j : ℕ) (a b : Train) → i < length rows → j < length rows
-    → set (set (set (set rows i a) j b) i (getD rows i blankTrain)) j (getD rows j blankTrain) ≡ rows
-rows-back rows i j a b hi hj =
-    ext-getD blankTrain (set three j (getD rows j blankTrain)) rows (size three j (getD rows j blankTrain) ∙ size-three)
-    (λ k l. at k (ℕ-discrete k j) (ℕ-discrete k i))
-  where
-    one : List Train
-    one = set rows i a
-
-    two : List Train
-    two = set one j b
-
-    three : List Train
-    three = set two i (getD rows i blankTrain)
-
-    size : (l : List Train) (k : ℕ) (t : Train) → length (set l k t) ≡ length l
-    size l k t = length-set l k t
-
-    size-two : length two ≡ length rows
-    size-two = size one j b ∙ size rows i a
-
-    size-three : length three ≡ length rows
-    size-three = size two i (getD rows i blankTrain) ∙ size-two
-
-    at : (k : ℕ) → Dec (k ≡ j) → Dec (k ≡ i) → getD (set three j (getD rows j blankTrain)) k blankTrain ≡ getD rows k blankTrain
-    at k (yes e) d = rw e (getD-set-same three j (getD rows j blankTrain) blankTrain (omega (arith, size-three)))
-    at k (no ne) (yes e) =
-        getD-set-other three j k (getD rows j blankTrain) blankTrain ne
-        ∙ rw e (getD-set-same two i (getD rows i blankTrain) blankTrain (omega (arith, size-two)))
-    at k (no ne) (no nf) =
-        getD-set-other three j k (getD rows j blankTrain) blankTrain ne
-        ∙ getD-set-other two i k (getD rows i blankTrain) blankTrain nf
-        ∙ getD-set-other one j k b blankTrain ne
-        ∙ getD-set-other rows i k a blankTrain nf
-
--- UNDOING WHAT WAS SAVED GIVES THE VIEW BACK
-pub undo-save : (v : View) (e : Effect) → e .one .row < length (v .rows) → e .other .row < length (v .rows) → undone (saved v e) (applied v e) ≡ v
-unfolding undone saved applied
-undo-save v e hi hj =
-    λ k. record { rows = rows-back (v .rows) (e .one .row) (e .other .row) (e .one .train) (e .other .train) hi hj k; book = v .book }

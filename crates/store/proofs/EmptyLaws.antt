@@ -2,16 +2,14 @@
 use Prim.Native.Nat.{ℕ, _+_, _*_, _≤_, _<_}
 use mathlib.Core.List.{List, []}
 use mathlib.Core.Logic.{⊎-elim}
-use mathlib.Core.Path.{_≡_, sym, ap, _∙_}
+use mathlib.Core.Path.{_≡_, sym, _∙_}
 use native.Mathlib.Decide.{ℕ-discrete}
 use native.Mathlib.Omega.{arith}
 use lib.ListN.{length, getD, set, length-replicate, getD-replicate, replicate, List·getD-eq-default}
 use lib.Seq.{ext-getD, getD-set-same, getD-set-other}
-use Rattle.numbers.specs.Numbers.{numberAt}
-use Rattle.numbers.proofs.FieldLaws.{Bytes, lt-or-le}
-use Rattle.numbers.proofs.NumberLaws.{number-past}
-use Rattle.replay.specs.Demand3.{depth}
-use Rattle.replay.specs.Ring.{readBack}
+use Rattle.packets.specs.Numbers.{numberAt}
+use Rattle.packets.proofs.FieldLaws.{Bytes, lt-or-le}
+use Rattle.packets.proofs.NumberLaws.{number-past}
 use Rattle.rows.specs.Register.{rowCount}
 use Rattle.rows.proofs.Bytewise.{field-same, bit-of-byte}
 use Rattle.rows.proofs.RowLaws.{row-zeros}
@@ -20,8 +18,7 @@ use Rattle.trains.specs.Record.{blankTrain}
 use Rattle.trains.specs.declared.record.Train.{Train}
 use Rattle.store.specs.Emptied.{emptied}
 use Rattle.store.specs.Layout.{counterAt, keptAt, bookAt, rowPlace, sessionBytes}
-use Rattle.store.specs.Log.{entryIn, logOf}
-use Rattle.store.specs.View.{viewOf, bookOf, counterOf, keptOf, headOf}
+use Rattle.store.specs.View.{viewOf, bookOf, counterOf, keptOf}
 use Rattle.store.proofs.Frames.{Ready}
 use Rattle.store.proofs.RegisterLaws.{view-by}
 use Rattle.store.proofs.Stretches.{length-stretch, stretch-at}
@@ -77,10 +74,6 @@ emptied-counter bs = emptied-number 4 bs counterAt
 
 pub emptied-kept : (bs : List ℕ) → keptOf (emptied bs) ≡ 0
 emptied-kept bs = omega (arith, emptied-number 4 bs keptAt)
-
-pub emptied-log : (bs : List ℕ) → logOf (emptied bs) ≡ []
-unfolding readBack
-emptied-log bs = ap (readBack depth (entryIn (emptied bs)) (headOf (emptied bs))) (emptied-kept bs)
 
 emptied-rows : (bs : List ℕ) → viewOf (emptied bs) .rows ≡ replicate rowCount blankTrain
 emptied-rows bs =

@@ -14,14 +14,9 @@ use Rattle.rows.proofs.RowLaws.{row-same, length-put-row, bytes-put-row, byte-a
 use Rattle.trains.specs.declared.record.Train.{Train}
 use Rattle.trains.specs.Kinds.{lastSlot}
 use Rattle.trains.specs.Ranges.{oneTo}
-use Rattle.store.specs.Copied.{copied}
 use Rattle.store.specs.Effect.{slotMarked, marked}
-use Rattle.store.specs.Layout.{bookAt, rowsAt, sessionBytes}
-use Rattle.store.specs.Settled.{bookMarked}
-use Rattle.store.specs.View.{bookOf}
-use Rattle.store.proofs.BookLaws.{book-marked-out}
-use Rattle.store.proofs.Sizes.{length-book-marked}
-use Rattle.store.proofs.Stretches.{Outside, length-copied, copied-out, bytes-copied, stretch-same, bytes-set, bytes-sets, bytes-stretch}
+use Rattle.store.specs.Layout.{sessionBytes}
+use Rattle.store.proofs.Stretches.{Outside, stretch-same, bytes-set}
 
 -- m bytes at i and n bytes at `at` have none in common
 abbrev pub Clear : ℕ → ℕ → ℕ → ℕ → Type 0
@@ -71,13 +66,6 @@ number-changes m s i x h = record {
       (λ q l u. bit-put-out s (8 * i) (8 * m) x q (⊎-elim (λ a. inl (omega arith)) (λ a. inr (omega arith)) o));
 }
 
-pub copied-changes : (s : List ℕ) (n from to : ℕ) → Bytes s → from + n ≤ length s → Changes s (copied s n from to) to n
-copied-changes s n from to h f = record {
-  size = length-copied s n from to;
-  bytes = bytes-copied s n from to h;
-  out = copied-out s n from to f;
-}
-
 pub row-changes : (s : List ℕ) (at : ℕ) (t : Train) → Bytes s → Changes s (putRow s at t) at rowBytes
 row-changes s at t h = record {
   size = length-put-row s at t;
@@ -98,19 +86,6 @@ pub bytes-marked : (book : List ℕ) (slot n mark : ℕ) → Bytes book → mark
 unfolding marked
 bytes-marked book slot zero mark h m = h
 bytes-marked book slot (suc n) mark h m = bytes-marked (slotMarked book slot mark) (suc slot) n mark (bytes-slot-marked book slot mark h m) m
-
-bytes-book-marked : (s : List ℕ) (slot n mark : ℕ) → Bytes s → mark < 256 → Bytes (bookMarked s slot n mark)
-unfolding bookMarked
-bytes-book-marked s slot n mark h m =
-    bytes-sets s bookAt (marked (bookOf s) slot n mark) h (bytes-marked (bookOf s) slot n mark (bytes-stretch s lastSlot bookAt h) m)
-
-pub book-changes : (s : List ℕ) (slot n mark : ℕ) → Bytes s → rowsAt ≤ length s → mark < 256
-    → Changes s (bookMarked s slot n mark) bookAt lastSlot
-book-changes s slot n mark h room m = record {
-  size = length-book-marked s slot n mark;
-  bytes = bytes-book-marked s slot n mark h m;
-  out = book-marked-out s room slot n mark;
-}
 
 -- ---- sessions
 

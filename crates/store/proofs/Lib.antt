@@ -1,13 +1,7 @@
 pub mod Stretches
 pub mod BookLaws
 pub mod ViewLaws
-pub mod Sizes
 pub mod Frames
 pub mod RegisterLaws
-pub mod HeaderLaws
-pub mod EntryLaws
 pub mod EffectLaws
-pub mod SettledLaws
-pub mod BackLaws
 pub mod EmptyLaws
-pub mod BoundsLaws

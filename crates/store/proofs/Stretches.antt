@@ -1,4 +1,4 @@
--- Stretches of bytes: what a run of stores puts and what it leaves, and copies made of one.
+-- Stretches of bytes: what a run of stores puts and what it leaves, and stretches that are read.
 use Prim.Native.Nat.{ℕ, zero, suc, _+_, _-_, _≤_, _<_}
 use mathlib.Core.List.{List, [], _∷_}
 use mathlib.Core.Logic.{⊎-elim, _⊎_, inl, inr}
@@ -6,10 +6,8 @@ use mathlib.Core.Path.{_≡_, refl, sym, ap, _∙_}
 use native.Mathlib.Decide.{ℕ-discrete}
 use native.Mathlib.Omega.{arith}
 use lib.ListN.{length, getD, set, take, drop, length-take, length-drop, length-set, List·getD-eq-default}
-use lib.Seq.{sets, length-sets, take-suc, getD-take, getD-drop, getD-set-same, getD-set-other, set-out, ext-getD}
-use Rattle.numbers.proofs.FieldLaws.{Bytes, lt-or-le}
-use Rattle.numbers.proofs.RowLaws.{sets-append}
-use Rattle.store.specs.Copied.{copied, Apart}
+use lib.Seq.{sets, length-sets, getD-take, getD-drop, getD-set-same, getD-set-other, set-out, ext-getD}
+use Rattle.packets.proofs.FieldLaws.{Bytes, lt-or-le}
 
 -- what stands before a run of n bytes at i, or behind it
 abbrev pub Outside : ℕ → ℕ → ℕ → Type 0
@@ -87,55 +85,10 @@ bytes-stretch bs n from h k = at (lt-or-le k n)
     at (inl l) = rw (getD-take n (drop from bs) k 0 l, getD-drop from bs k 0) (h (from + k))
     at (inr l) = rw (List·getD-eq-default (take n (drop from bs)) 0 {n = k} (omega (arith, length-take n (drop from bs)))) (omega arith)
 
--- ---- copies
+-- ---- a stretch that is read
 
 pub length-stretch : (bs : List ℕ) (n from : ℕ) → from + n ≤ length bs → length (take n (drop from bs)) ≡ n
 length-stretch bs n from h = length-take n (drop from bs) ∙ rw length-drop (omega arith)
 
 pub stretch-at : (bs : List ℕ) (n from k : ℕ) → k < n → getD (take n (drop from bs)) k 0 ≡ getD bs (from + k) 0
 stretch-at bs n from k h = getD-take n (drop from bs) k 0 h ∙ getD-drop from bs k 0
-
-pub length-copied : (bs : List ℕ) (n from to : ℕ) → length (copied bs n from to) ≡ length bs
-unfolding copied
-length-copied bs n from to = length-sets bs to (take n (drop from bs))
-
-module _ (bs : List ℕ) (n from to : ℕ) (h : from + n ≤ length bs) where
-  -- a byte outside the target stays
-  pub copied-out : (k : ℕ) → Outside to n k → getD (copied bs n from to) k 0 ≡ getD bs k 0
-  unfolding copied
-  copied-out k o =
-      let e : length (take n (drop from bs)) ≡ n = length-stretch bs n from h in
-      sets-out bs to (take n (drop from bs)) k (⊎-elim (λ b. inl b) (λ b. inr (omega arith)) o)
-
-  -- a byte of the target is that of the source
-  pub copied-in : (k : ℕ) → to + n ≤ length bs → k < n → getD (copied bs n from to) (to + k) 0 ≡ getD bs (from + k) 0
-  unfolding copied
-  copied-in k g l =
-      let e : length (take n (drop from bs)) ≡ n = length-stretch bs n from h in
-      sets-in bs to (take n (drop from bs)) k (omega arith) (omega arith) ∙ stretch-at bs n from k l
-
--- bytes stay bytes
-pub bytes-copied : (bs : List ℕ) (n from to : ℕ) → Bytes bs → Bytes (copied bs n from to)
-unfolding copied
-bytes-copied bs n from to h = bytes-sets bs to (take n (drop from bs)) h (bytes-stretch bs n from h)
-
--- nothing copied
-pub copied-zero : (bs : List ℕ) (from to : ℕ) → copied bs 0 from to ≡ bs
-unfolding copied
-copied-zero bs from to = refl
-
--- one byte more, taken from the bytes as they are by then
-pub copied-suc : (bs : List ℕ) (n from to i : ℕ) → Apart n from to (length bs) → i < n
-    → set (copied bs i from to) (to + i) (getD (copied bs i from to) (from + i) 0) ≡ copied bs (suc i) from to
-unfolding copied
-copied-suc bs n from to i h l =
-    let v : List ℕ = take i (drop from bs) in
-    let lv : length v ≡ i = length-stretch bs i from (omega (arith, h .source)) in
-    let ld : i < length (drop from bs) = rw length-drop (omega (arith, h .source)) in
-    let stays : getD (sets bs to v) (from + i) 0 ≡ getD (drop from bs) i 0 =
-    sets-out bs to v (from + i) (⊎-elim (λ a. inl (omega arith)) (λ a. inr (omega arith)) (h .apart)) ∙ sym (getD-drop from bs i 0) in
-    rw stays
-    (sym
-    (ap (sets bs to) (take-suc (drop from bs) i 0 ld)
-    ∙ sets-append bs to v (getD (drop from bs) i 0 ∷ [])
-    ∙ ap (λ (n : ℕ). set (sets bs to v) (to + n) (getD (drop from bs) i 0)) lv))

@@ -1,56 +1,5 @@
-// The lent bytes of a session: their layout, the rows and the book in them, the log's ring, an effect taken in and undone. Only this crate
-// knows offsets. Here is what keeping and undoing share.
-pub mod back;
+// The lent bytes of a session: their layout, what any bytes stand for, and what an effect does to that. Only this crate knows offsets.
 pub mod effect;
 pub mod emptied;
 pub mod layout;
-pub mod settled;
 pub mod view;
-
-use rows::row;
-ghost use mathlib.Core.Path.{_≡_};
-ghost use Prim.Native.Nat.{_^_, _<_};
-ghost use lib.ListN.{length};
-ghost use Rattle.replay.specs.Demand3.{depth};
-ghost use Rattle.rows.specs.Register.{rowCount};
-ghost use Rattle.store.specs.Copied.{copied, Apart};
-ghost use Rattle.store.specs.Layout.{rowPlace, entryPlace};
-ghost use Rattle.store.specs.Settled.{headed};
-
-// `n` bytes from a place on, to another that has none of them.
-fn copy_bytes(s: &mut [u8], n: usize, from: usize, to: usize)
-    requires { ⌜ Apart n from to (length (now s)) ⌝ }
-    ensures { λ _. ⌜ now (s .exit) ≡ copied (now (s .entry)) n from to ⌝ }
-{
-    let mut i: usize = 0;
-    while i < n {
-        s[to + i] = s[from + i];
-        i += 1;
-    }
-}
-
-// Row i of the register, counted from 0.
-fn row_place(i: usize) -> usize
-    requires { ⌜ i < rowCount ⌝ }
-    ensures { λ r. ⌜ r ≡ rowPlace i ⌝ }
-{
-    layout::ROWS + row::ROW * i
-}
-
-// The entry at a place of the ring.
-fn entry_place(p: usize) -> usize
-    requires { ⌜ p < depth ⌝ }
-    ensures { λ r. ⌜ r ≡ entryPlace p ⌝ }
-{
-    layout::LOG + layout::ENTRY * p
-}
-
-// The header: the ticket counter, the entries kept and the place that the next entry goes to.
-fn put_header(s: &mut [u8], counter: u32, kept: usize, head: usize)
-    requires { ⌜ (kept < 2 ^ 32) × (head < 2 ^ 32) ⌝ }
-    ensures { λ _. ⌜ now (s .exit) ≡ headed (now (s .entry)) counter kept head ⌝ }
-{
-    numbers::put_word(s, layout::COUNTER, counter);
-    numbers::put_word(s, layout::KEPT, kept as u32);
-    numbers::put_word(s, layout::HEAD, head as u32);
-}

@@ -28,7 +28,7 @@ pub fn kept(s: &[u8]) -> usize
 }
 
 // The place of the ring that the next entry goes to.
-pub(crate) fn head(s: &[u8]) -> usize
+pub fn head(s: &[u8]) -> usize
     ensures { λ r. ⌜ r ≡ headOf (now (s .entry)) ⌝ }
 {
     numbers::word_at(s, layout::HEAD) as usize % replay::DEPTH
@@ -39,7 +39,7 @@ pub fn train(s: &[u8], i: usize) -> Train
     ensures { λ r. ⌜ r ≡ rowIn (viewOf (now (s .entry))) i ⌝ }
 {
     if i < register::ROWS {
-        row::row_at(s, crate::row_place(i))
+        row::row_at(s, layout::row_place(i as u32))
     } else {
         Train::blank()
     }

@@ -1,0 +1,66 @@
+-- Laws of copies: what a copy puts and what it leaves, made a byte at a time.
+use Prim.Native.Nat.{ℕ, suc, _+_, _≤_, _<_}
+use mathlib.Core.List.{List, [], _∷_}
+use mathlib.Core.Logic.{⊎-elim, inl, inr}
+use mathlib.Core.Path.{_≡_, refl, sym, ap, _∙_}
+use native.Mathlib.Omega.{arith}
+use lib.ListN.{length, getD, set, take, drop, length-drop}
+use lib.Seq.{sets, length-sets, take-suc, getD-drop}
+use Rattle.packets.proofs.FieldLaws.{Bytes}
+use Rattle.packets.proofs.RowLaws.{sets-append}
+use Rattle.store.proofs.Frames.{Changes}
+use Rattle.store.proofs.Stretches.{Outside, sets-out, sets-in, bytes-sets, bytes-stretch, length-stretch, stretch-at}
+use Rattle.ledger.specs.Copied.{copied, Apart}
+
+pub length-copied : (bs : List ℕ) (n from to : ℕ) → length (copied bs n from to) ≡ length bs
+unfolding copied
+length-copied bs n from to = length-sets bs to (take n (drop from bs))
+
+module _ (bs : List ℕ) (n from to : ℕ) (h : from + n ≤ length bs) where
+  -- a byte outside the target stays
+  pub copied-out : (k : ℕ) → Outside to n k → getD (copied bs n from to) k 0 ≡ getD bs k 0
+  unfolding copied
+  copied-out k o =
+      let e : length (take n (drop from bs)) ≡ n = length-stretch bs n from h in
+      sets-out bs to (take n (drop from bs)) k (⊎-elim (λ b. inl b) (λ b. inr (omega arith)) o)
+
+  -- a byte of the target is that of the source
+  pub copied-in : (k : ℕ) → to + n ≤ length bs → k < n → getD (copied bs n from to) (to + k) 0 ≡ getD bs (from + k) 0
+  unfolding copied
+  copied-in k g l =
+      let e : length (take n (drop from bs)) ≡ n = length-stretch bs n from h in
+      sets-in bs to (take n (drop from bs)) k (omega arith) (omega arith) ∙ stretch-at bs n from k l
+
+-- bytes stay bytes
+pub bytes-copied : (bs : List ℕ) (n from to : ℕ) → Bytes bs → Bytes (copied bs n from to)
+unfolding copied
+bytes-copied bs n from to h = bytes-sets bs to (take n (drop from bs)) h (bytes-stretch bs n from h)
+
+-- only the target changes
+pub copied-changes : (s : List ℕ) (n from to : ℕ) → Bytes s → from + n ≤ length s → Changes s (copied s n from to) to n
+copied-changes s n from to h f = record {
+  size = length-copied s n from to;
+  bytes = bytes-copied s n from to h;
+  out = copied-out s n from to f;
+}
+
+-- nothing copied
+pub copied-zero : (bs : List ℕ) (from to : ℕ) → copied bs 0 from to ≡ bs
+unfolding copied
+copied-zero bs from to = refl
+
+-- one byte more, taken from the bytes as they are by then
+pub copied-suc : (bs : List ℕ) (n from to i : ℕ) → Apart n from to (length bs) → i < n
+    → set (copied bs i from to) (to + i) (getD (copied bs i from to) (from + i) 0) ≡ copied bs (suc i) from to
+unfolding copied
+copied-suc bs n from to i h l =
+    let v : List ℕ = take i (drop from bs) in
+    let lv : length v ≡ i = length-stretch bs i from (omega (arith, h .source)) in
+    let ld : i < length (drop from bs) = rw length-drop (omega (arith, h .source)) in
+    let stays : getD (sets bs to v) (from + i) 0 ≡ getD (drop from bs) i 0 =
+    sets-out bs to v (from + i) (⊎-elim (λ a. inl (omega arith)) (λ a. inr (omega arith)) (h .apart)) ∙ sym (getD-drop from bs i 0) in
+    rw stays
+    (sym
+    (ap (sets bs to) (take-suc (drop from bs) i 0 ld)
+    ∙ sets-append bs to v (getD (drop from bs) i 0 ∷ [])
+    ∙ ap (λ (n : ℕ). set (sets bs to v) (to + n) (getD (drop from bs) i 0)) lv))

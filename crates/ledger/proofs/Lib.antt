@@ -1,0 +1,9 @@
+pub mod CopyLaws
+pub mod Sizes
+pub mod MarkLaws
+pub mod HeaderLaws
+pub mod LogLaws
+pub mod EntryLaws
+pub mod SettledLaws
+pub mod BackLaws
+pub mod BoundsLaws

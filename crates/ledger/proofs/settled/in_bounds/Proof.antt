@@ -1,0 +1,23 @@
+-- `ledger::settled::in_bounds` meets its contract.
+use borrow.Author.Tests.{lt-ltb, le-ltb}
+use Rattle.store.specs.Effect.{inBounds}
+use Rattle.ledger.proofs.settled.in_bounds.Statement.{statement}
+use Rattle.ledger.proofs.settled.in_bounds.Tie as tie
+
+returns : tie.Need-returns
+unfolding inBounds
+returns c = simp (le-ltb _ _ (c .if1 .taken))
+
+returns-2 : tie.Need-returns-2
+unfolding inBounds
+returns-2 c = simp (lt-ltb _ _ (c .before .before .if1 .left), le-ltb _ _ (c .if2 .taken))
+
+returns-3 : tie.Need-returns-3
+unfolding inBounds
+returns-3 c = simp (lt-ltb _ _ (c .before .before .before .if1 .left), lt-ltb _ _ (c .before .if2 .left))
+
+pub in-bounds-spec : {M : Type 1} → statement M
+in-bounds-spec =
+    tie.close
+    (tie.spec
+    returns returns-2 returns-3)

@@ -1,0 +1,4 @@
+pub mod Log
+pub mod Copied
+pub mod Settled
+pub mod Back

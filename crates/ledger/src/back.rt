@@ -1,0 +1,72 @@
+// Entries undone, the latest first.
+use packets::numbers;
+use rows::register;
+use rows::row;
+use store::layout;
+use store::view;
+ghost use mathlib.Core.Path.{_≡_};
+ghost use Prim.Native.Nat.{_+_, _-_, _≤_};
+ghost use lib.ListN.{length};
+ghost use Rattle.store.specs.Layout.{sessionBytes, logAt, entryBytes, keptRowBytes};
+ghost use Rattle.ledger.specs.Back.{rowBack, entryBack, stepped, steppedBy, steppedIn};
+
+// The row that the log keeps from a byte on, put back; a number that is none of the register's restores nothing.
+fn restore_row(s: &mut [u8], at: usize)
+    requires { ⌜ (length (now s) ≡ sessionBytes) × (logAt ≤ at) × (at + keptRowBytes ≤ sessionBytes) ⌝ }
+    ensures { λ _. ⌜ now (s .exit) ≡ rowBack (now (s .entry)) at ⌝ }
+{
+    let i = numbers::byte_at(s, at);
+    if (i as usize) < register::ROWS {
+        crate::copy_bytes(s, row::ROW, at + 1, layout::row_place(i));
+    }
+}
+
+// The entry that starts at a byte undone.
+fn restore_entry(s: &mut [u8], at: usize)
+    requires { ⌜ (length (now s) ≡ sessionBytes) × (logAt ≤ at) × (at + entryBytes ≤ sessionBytes) ⌝ }
+    ensures { λ _. ⌜ now (s .exit) ≡ entryBack (now (s .entry)) at ⌝ }
+{
+    crate::copy_bytes(s, layout::BOOK_BYTES, at, layout::BOOK);
+    restore_row(s, at + layout::ONE);
+    restore_row(s, at + layout::OTHER);
+}
+
+// One fewer, where there is one.
+fn one_less(n: usize) -> usize
+    ensures { λ r. ⌜ r ≡ n - 1 ⌝ }
+{
+    if n > 0 { n - 1 } else { 0 }
+}
+
+// The latest entry undone. The ticket counter stays.
+fn step_one(s: &mut [u8])
+    requires { ⌜ length (now s) ≡ sessionBytes ⌝ }
+    ensures { λ _. ⌜ now (s .exit) ≡ stepped (now (s .entry)) ⌝ }
+{
+    let counter = view::counter(s);
+    let kept = one_less(view::kept(s));
+    let head = replay::place_before(view::head(s));
+    restore_entry(s, crate::entry_place(head));
+    crate::put_header(s, counter, kept, head);
+}
+
+// The latest k entries undone.
+fn undo(s: &mut [u8], k: usize)
+    requires { ⌜ length (now s) ≡ sessionBytes ⌝ }
+    ensures { λ _. ⌜ now (s .exit) ≡ steppedBy k (now (s .entry)) ⌝ }
+{
+    let mut left = k;
+    while left > 0 {
+        step_one(s);
+        left -= 1;
+    }
+}
+
+// The latest k entries undone. Bytes of another length are left alone.
+pub fn step_back(s: &mut [u8], k: usize)
+    ensures { λ _. ⌜ now (s .exit) ≡ steppedIn k (now (s .entry)) ⌝ }
+{
+    if layout::is_session(s) {
+        undo(s, k);
+    }
+}
