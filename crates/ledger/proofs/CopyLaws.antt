@@ -6,8 +6,8 @@ use mathlib.Core.Path.{_≡_, refl, sym, ap, _∙_}
 use native.Mathlib.Omega.{arith}
 use lib.ListN.{length, getD, set, take, drop, length-drop}
 use lib.Seq.{sets, length-sets, take-suc, getD-drop}
-use Rattle.packets.proofs.FieldLaws.{Bytes}
-use Rattle.packets.proofs.RowLaws.{sets-append}
+use Rattle.numbers.proofs.FieldLaws.{Bytes}
+use Rattle.numbers.proofs.RowLaws.{sets-append}
 use Rattle.store.proofs.Frames.{Changes}
 use Rattle.store.proofs.Stretches.{Outside, sets-out, sets-in, bytes-sets, bytes-stretch, length-stretch, stretch-at}
 use Rattle.ledger.specs.Copied.{copied, Apart}

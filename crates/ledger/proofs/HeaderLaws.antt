@@ -5,8 +5,8 @@ use mathlib.Core.Logic.{inl}
 use mathlib.Core.Path.{_≡_, refl, _∙_}
 use native.Mathlib.Omega.{arith}
 use lib.ListN.{length}
-use Rattle.packets.specs.Numbers.{numberAt, putNumber}
-use Rattle.packets.proofs.FieldLaws.{Bytes, field-put}
+use Rattle.numbers.specs.Numbers.{numberAt, putNumber}
+use Rattle.numbers.proofs.FieldLaws.{Bytes, field-put}
 use Rattle.store.specs.Layout.{counterAt, keptAt, headAt, bookAt}
 use Rattle.store.specs.View.{counterOf}
 use Rattle.store.proofs.Frames.{Changes, widen, next, number-changes, number-stays}

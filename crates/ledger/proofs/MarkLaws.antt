@@ -7,7 +7,7 @@ use mathlib.Core.Path.{_≡_, sym, ap, _∙_}
 use native.Mathlib.Omega.{arith}
 use lib.ListN.{length, getD, set}
 use lib.Seq.{sets}
-use Rattle.packets.proofs.FieldLaws.{Bytes}
+use Rattle.numbers.proofs.FieldLaws.{Bytes}
 use Rattle.trains.specs.Kinds.{lastSlot}
 use Rattle.trains.specs.Ranges.{oneTo}
 use Rattle.trains.proofs.RangeLaws.{one-to}

@@ -1,5 +1,4 @@
 // Entries undone, the latest first.
-use packets::numbers;
 use rows::register;
 use rows::row;
 use store::layout;

@@ -3,7 +3,6 @@
 pub mod back;
 pub mod settled;
 
-use packets::numbers;
 use store::layout;
 ghost use mathlib.Core.Path.{_≡_};
 ghost use Prim.Native.Nat.{_^_, _<_};

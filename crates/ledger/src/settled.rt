@@ -1,5 +1,4 @@
 // An effect taken into the bytes: the entry that undoes it is kept first, then the header, the book and the rows are put.
-use packets::numbers;
 use rows::register;
 use rows::row;
 use store::effect::Change;

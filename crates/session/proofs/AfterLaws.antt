@@ -13,12 +13,12 @@ use Rattle.numbers.proofs.NumberLaws.{number-lt}
 use Rattle.replay.specs.Demand3.{depth}
 use Rattle.store.specs.Effect.{applied}
 use Rattle.store.specs.Layout.{counterAt, sessionBytes}
-use Rattle.store.specs.Log.{saved, logOf}
-use Rattle.store.specs.Settled.{settled}
 use Rattle.store.specs.View.{View, viewOf, counterOf, keptOf}
 use Rattle.store.specs.declared.effect.Effect.{Effect}
 use Rattle.store.proofs.Frames.{Ready}
-use Rattle.store.proofs.SettledLaws.{EffectFits, settled-ready, settled-view, settled-counter, settled-kept, settled-log}
+use Rattle.ledger.specs.Log.{saved, logOf}
+use Rattle.ledger.specs.Settled.{settled}
+use Rattle.ledger.proofs.SettledLaws.{EffectFits, settled-ready, settled-view, settled-counter, settled-kept, settled-log}
 use Rattle.rulings.specs.declared.ruling.Answer.{Answer}
 use Rattle.rules.specs.Judged.{judged}
 use Rattle.session.specs.Answers.{answerTo, bytesAfter, backAnswer, backAfter}

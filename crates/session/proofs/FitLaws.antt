@@ -25,7 +25,7 @@ use Rattle.trains.specs.declared.kinds.Ticket.{Ticket}
 use Rattle.trains.specs.declared.record.Place.the-variants.{Nowhere, At}
 use Rattle.trains.specs.declared.record.Train.{Train}
 use Rattle.store.specs.View.{View, findIn}
-use Rattle.store.proofs.SettledLaws.{EffectFits}
+use Rattle.ledger.proofs.SettledLaws.{EffectFits}
 use Rattle.rules.specs.declared.named.Named.{Named}
 use Rattle.rulings.specs.declared.ruling.Ruling.{Ruling}
 use Rattle.rules.specs.Named.{inRow, namedIn, nobody, onNamed}

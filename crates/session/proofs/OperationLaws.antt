@@ -7,11 +7,11 @@ use native.Mathlib.Decide.{ℕ-discrete}
 use borrow.Author.Tests.{eq-eqb, ne-eqb, lt-ltb, le-ltb}
 use lib.Dec.{ltb}
 use lib.ListN.{length}
-use Rattle.store.specs.Back.{steppedBy}
 use Rattle.store.specs.Layout.{sessionBytes}
-use Rattle.store.specs.Settled.{settled}
 use Rattle.store.specs.View.{viewOf, counterOf, keptOf}
 use Rattle.store.specs.Effect.{InBounds}
+use Rattle.ledger.specs.Back.{steppedBy}
+use Rattle.ledger.specs.Settled.{settled}
 use Rattle.rulings.specs.declared.ruling.Answer.{Answer}
 use Rattle.rulings.specs.declared.ruling.Ruling.{Ruling}
 use Rattle.rules.specs.Judged.{judged}

@@ -19,9 +19,9 @@ use Rattle.store.proofs.BookLaws.{length-book}
 use Rattle.store.proofs.EffectLaws.{applied-rows, applied-book, applied-one, applied-other, applied-row-stays}
 use Rattle.store.proofs.Frames.{Ready, bytes-marked}
 use Rattle.store.proofs.RegisterLaws.{view-book}
-use Rattle.store.proofs.SettledLaws.{EffectFits}
 use Rattle.store.proofs.Stretches.{bytes-stretch}
 use Rattle.store.proofs.ViewLaws.{view-rows, view-fits, view-row-past}
+use Rattle.ledger.proofs.SettledLaws.{EffectFits}
 use Rattle.trains.specs.Kinds.{lastSlot}
 use Rattle.trains.specs.Record.{blankTrain}
 

@@ -6,11 +6,11 @@ use lib.Dec.{eqb, ltb}
 use lib.ListN.{length}
 use Rattle.trains.specs.declared.kinds.Loco.{Loco}
 use Rattle.trains.specs.declared.kinds.Ticket.{Ticket}
-use Rattle.store.specs.Back.{steppedBy}
 use Rattle.store.specs.Emptied.{emptied}
 use Rattle.store.specs.Layout.{sessionBytes}
-use Rattle.store.specs.Settled.{settled}
 use Rattle.store.specs.View.{counterOf, keptOf}
+use Rattle.ledger.specs.Back.{steppedBy}
+use Rattle.ledger.specs.Settled.{settled}
 use Rattle.rulings.specs.declared.ruling.Answer.{Answer}
 use Rattle.rulings.specs.declared.ruling.Ruling.{Ruling}
 use Rattle.rulings.specs.Refusals.{wrongLength, tooFarBack}

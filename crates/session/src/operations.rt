@@ -1,12 +1,12 @@
 // THE OPERATIONS on a lent session. Each judges first and then takes the effect in; a refusal changes no byte.
 use crate::refusals;
+use ledger::back;
+use ledger::settled;
 use rules::judging;
 use rulings::ruling::Answer;
 use rulings::ruling::Ruling;
-use store::back;
 use store::emptied;
 use store::layout;
-use store::settled;
 use store::view;
 use trains::kinds::Loco;
 use trains::kinds::Ticket;

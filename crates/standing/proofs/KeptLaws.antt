@@ -16,12 +16,12 @@ use Rattle.replay.specs.Demand3.{opAnswer, backAnswer as backTold, ticketDue, j
 use Rattle.replay.specs.Machine.{counterAfter as counterDue, acted, undoAll, undone as wound, step}
 use Rattle.replay.specs.Kept.{Steps, Kept}
 use Rattle.replay.proofs.Rings.{length-readBack}
-use Rattle.store.specs.Back.{steppedBy}
 use Rattle.store.specs.Effect.{applied}
-use Rattle.store.specs.Log.{Entry, saved, undone, entryIn, logOf}
 use Rattle.store.specs.View.{View, viewOf, counterOf, keptOf, headOf}
-use Rattle.store.proofs.BackLaws.{undoneAll, stepped-by-ready, stepped-by-view, stepped-by-counter, stepped-by-log}
 use Rattle.store.proofs.Frames.{Ready}
+use Rattle.ledger.specs.Back.{steppedBy}
+use Rattle.ledger.specs.Log.{Entry, saved, undone, entryIn, logOf}
+use Rattle.ledger.proofs.BackLaws.{undoneAll, stepped-by-ready, stepped-by-view, stepped-by-counter, stepped-by-log}
 use Rattle.rules.specs.Judged.{judged}
 use Rattle.session.specs.Answers.{answerTo, bytesAfter}
 use Rattle.rules.specs.Rules.{Op, grants, rule, counterAfter}

@@ -8,9 +8,10 @@ use lib.ListN.{length}
 use Rattle.replay.specs.Rules.{Lawful, refuse, accept, lastTicket}
 use Rattle.rows.specs.Register.{rowCount}
 use Rattle.store.specs.Effect.{applied}
-use Rattle.store.specs.Log.{saved, undone}
 use Rattle.store.specs.View.{View}
-use Rattle.store.proofs.EffectLaws.{applied-rows, undo-save}
+use Rattle.store.proofs.EffectLaws.{applied-rows}
+use Rattle.ledger.specs.Log.{saved, undone}
+use Rattle.ledger.proofs.LogLaws.{undo-save}
 use Rattle.rules.specs.Rules.{Op, grants, rule}
 use Rattle.rulings.specs.declared.ruling.Ruling.{Ruling}
 use Rattle.session.proofs.AfterLaws.{grant-ticket}

@@ -15,8 +15,9 @@ use Rattle.replay.proofs.Played.{played}
 use Rattle.store.specs.Emptied.{emptied}
 use Rattle.store.specs.Layout.{sessionBytes}
 use Rattle.store.specs.View.{counterOf}
-use Rattle.store.proofs.EmptyLaws.{emptied-ready, emptied-counter, emptied-log}
+use Rattle.store.proofs.EmptyLaws.{emptied-ready, emptied-counter}
 use Rattle.store.proofs.ViewLaws.{view-rows}
+use Rattle.ledger.proofs.LogLaws.{emptied-log}
 use Rattle.session.specs.Answers.{startAfter}
 use Rattle.rules.specs.Rules.{Op}
 use Rattle.session.proofs.OperationLaws.{is-session}

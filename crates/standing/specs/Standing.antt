@@ -10,8 +10,8 @@ use Rattle.replay.specs.Demand3.{Call, op, back, Session}
 use Rattle.rows.specs.Register.{rowCount}
 use Rattle.store.specs.Effect.{applied}
 use Rattle.store.specs.Layout.{sessionBytes}
-use Rattle.store.specs.Log.{Entry, saved, undone, logOf}
 use Rattle.store.specs.View.{View, viewOf, counterOf}
+use Rattle.ledger.specs.Log.{Entry, saved, undone, logOf}
 use Rattle.session.specs.Answers.{answerTo, bytesAfter, backAnswer, backAfter}
 use Rattle.rules.specs.Rules.{Op, grants, rule}
 use Rattle.rulings.specs.declared.ruling.Answer.{Answer}

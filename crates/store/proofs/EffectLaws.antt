@@ -8,7 +8,7 @@ use native.Mathlib.Omega.{arith}
 use lib.Dec.{eqb}
 use lib.ListN.{length, getD, set, length-set}
 use lib.Seq.{getD-set-same, getD-set-other}
-use Rattle.packets.proofs.FieldLaws.{lt-or-le}
+use Rattle.numbers.proofs.FieldLaws.{lt-or-le}
 use Rattle.trains.specs.Kinds.{lastSlot}
 use Rattle.trains.specs.Ranges.{oneTo}
 use Rattle.trains.specs.Record.{blankTrain}

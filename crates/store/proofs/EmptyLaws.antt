@@ -7,9 +7,9 @@ use native.Mathlib.Decide.{ℕ-discrete}
 use native.Mathlib.Omega.{arith}
 use lib.ListN.{length, getD, set, length-replicate, getD-replicate, replicate, List·getD-eq-default}
 use lib.Seq.{ext-getD, getD-set-same, getD-set-other}
-use Rattle.packets.specs.Numbers.{numberAt}
-use Rattle.packets.proofs.FieldLaws.{Bytes, lt-or-le}
-use Rattle.packets.proofs.NumberLaws.{number-past}
+use Rattle.numbers.specs.Numbers.{numberAt}
+use Rattle.numbers.proofs.FieldLaws.{Bytes, lt-or-le}
+use Rattle.numbers.proofs.NumberLaws.{number-past}
 use Rattle.rows.specs.Register.{rowCount}
 use Rattle.rows.proofs.Bytewise.{field-same, bit-of-byte}
 use Rattle.rows.proofs.RowLaws.{row-zeros}

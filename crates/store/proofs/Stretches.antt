@@ -7,7 +7,7 @@ use native.Mathlib.Decide.{ℕ-discrete}
 use native.Mathlib.Omega.{arith}
 use lib.ListN.{length, getD, set, take, drop, length-take, length-drop, length-set, List·getD-eq-default}
 use lib.Seq.{sets, length-sets, getD-take, getD-drop, getD-set-same, getD-set-other, set-out, ext-getD}
-use Rattle.packets.proofs.FieldLaws.{Bytes, lt-or-le}
+use Rattle.numbers.proofs.FieldLaws.{Bytes, lt-or-le}
 
 -- what stands before a run of n bytes at i, or behind it
 abbrev pub Outside : ℕ → ℕ → ℕ → Type 0

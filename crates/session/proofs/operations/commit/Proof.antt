@@ -1,6 +1,6 @@
 -- `session::operations::commit` meets its contract. Assumes nothing.
 use mathlib.Core.Path.{_≡_, sym, _∙_}
-use Rattle.store.proofs.BoundsLaws.{settled-in}
+use Rattle.ledger.proofs.BoundsLaws.{settled-in}
 use Rattle.session.proofs.OperationLaws.{is-session, no-session, taken-in, not-taken}
 use borrow.Author.Needs.{needs}
 use Rattle.session.proofs.operations.commit.Statement.{statement}

@@ -1,6 +1,6 @@
 -- `session::operations::step_back` meets its contract. Assumes nothing.
 use mathlib.Core.Path.{_≡_, sym, ap, _∙_}
-use Rattle.store.proofs.BoundsLaws.{stepped-in}
+use Rattle.ledger.proofs.BoundsLaws.{stepped-in}
 use Rattle.session.proofs.OperationLaws.{is-session, no-session}
 use Rattle.session.proofs.OperationLaws.{back-refused, back-taken}
 use native.Mathlib.Omega.{arith}
