@@ -1,4 +1,5 @@
 // Entries undone, the latest first.
+use crate::entry;
 use rows::register;
 use rows::row;
 use store::layout;
@@ -25,9 +26,9 @@ fn restore_entry(s: &mut [u8], at: usize)
     requires { ⌜ (length (now s) ≡ sessionBytes) × (logAt ≤ at) × (at + entryBytes ≤ sessionBytes) ⌝ }
     ensures { λ _. ⌜ now (s .exit) ≡ entryBack (now (s .entry)) at ⌝ }
 {
-    crate::copy_bytes(s, layout::BOOK_BYTES, at, layout::BOOK);
-    restore_row(s, at + layout::ONE);
-    restore_row(s, at + layout::OTHER);
+    crate::copy_bytes(s, entry::BOOK_BYTES, at, layout::BOOK);
+    restore_row(s, at + entry::ONE);
+    restore_row(s, at + entry::OTHER);
 }
 
 // One fewer, where there is one.

@@ -1,6 +1,7 @@
 // What moves a session: an effect taken into its bytes, with the entry that undoes it kept in the log's ring, and entries undone. Where
 // everything stands is store's to say. Here is what keeping and undoing share.
 pub mod back;
+mod entry;
 pub mod settled;
 
 use store::layout;
@@ -29,7 +30,7 @@ fn entry_place(p: usize) -> usize
     requires { ⌜ p < depth ⌝ }
     ensures { λ r. ⌜ r ≡ entryPlace p ⌝ }
 {
-    layout::LOG + layout::ENTRY * p
+    entry::LOG + entry::BYTES * p
 }
 
 // The header: the ticket counter, the entries kept and the place that the next entry goes to.

@@ -1,4 +1,5 @@
 // An effect taken into the bytes: the entry that undoes it is kept first, then the header, the book and the rows are put.
+use crate::entry;
 use rows::register;
 use rows::row;
 use store::effect::Change;
@@ -30,9 +31,9 @@ fn keep_entry(s: &mut [u8], i: usize, j: usize, at: usize)
     requires { ⌜ (length (now s) ≡ sessionBytes) × (i < rowCount) × (j < rowCount) × (logAt ≤ at) × (at + entryBytes ≤ sessionBytes) ⌝ }
     ensures { λ _. ⌜ now (s .exit) ≡ entryKept (now (s .entry)) i j at ⌝ }
 {
-    crate::copy_bytes(s, layout::BOOK_BYTES, layout::BOOK, at);
-    keep_row(s, i, at + layout::ONE);
-    keep_row(s, j, at + layout::OTHER);
+    crate::copy_bytes(s, entry::BOOK_BYTES, layout::BOOK, at);
+    keep_row(s, i, at + entry::ONE);
+    keep_row(s, j, at + entry::OTHER);
 }
 
 // The entry of two rows pushed, and the counter set.
