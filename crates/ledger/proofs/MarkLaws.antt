@@ -68,6 +68,7 @@ unfolding bookMarked
 bytes-book-marked s slot n mark h m =
     bytes-sets s bookAt (marked (bookOf s) slot n mark) h (bytes-marked (bookOf s) slot n mark (bytes-stretch s lastSlot bookAt h) m)
 
+-- only the book changes
 pub book-changes : (s : List ℕ) (slot n mark : ℕ) → Bytes s → rowsAt ≤ length s → mark < 256
     → Changes s (bookMarked s slot n mark) bookAt lastSlot
 book-changes s slot n mark h room m = record {
