@@ -1,11 +1,16 @@
-// The log's part of a session's bytes: an entry keeps the book, and twice a row's number and that row.
-pub(crate) const LOG: usize = 1664;
+// The log's part of a session's bytes, behind the register: an entry keeps the book, and twice a row's number and that row.
+use rows::register;
+use rows::row;
+use store::layout;
+use trains::kinds::LAST_SLOT;
 
-pub(crate) const BYTES: usize = 180;
+pub(crate) const LOG: usize = layout::ROWS + row::ROW * register::ROWS;
 
-pub(crate) const BOOK_BYTES: usize = 44;
+pub(crate) const BOOK_BYTES: usize = LAST_SLOT as usize;
 
 // Where an entry keeps its two rows' numbers, counted from its start. The row stands behind its number.
-pub(crate) const ONE: usize = 44;
+pub(crate) const ONE: usize = BOOK_BYTES;
 
-pub(crate) const OTHER: usize = 112;
+pub(crate) const OTHER: usize = ONE + 1 + row::ROW;
+
+pub(crate) const BYTES: usize = OTHER + 1 + row::ROW;

@@ -1,5 +1,5 @@
-// What moves a session: an effect taken into its bytes, with the entry that undoes it kept in the log's ring, and entries undone. Where
-// everything stands is store's to say. Here is what keeping and undoing share.
+// What moves a session: an effect taken into its bytes, with the entry that undoes it kept in the log's ring, and entries undone. All
+// places are defined in store's specs; those of the log are in `entry`. Here is what keeping and undoing share.
 pub mod back;
 mod entry;
 pub mod settled;

@@ -1,9 +1,9 @@
 // The mode step (document 01, "Modes"): of the open transitions of a mode, the one of the best priority, by the lowest target.
 mod flags;
-mod numbers;
+mod row_bytes;
 
-use numbers::index;
-use numbers::number;
+use row_bytes::index;
+use row_bytes::number;
 use transitions::Row;
 use transitions::Rows;
 use transitions::first;

@@ -1,4 +1,4 @@
-// Where everything but the log stands in a session's bytes; the log takes what is left.
+// Where everything but the log stands in a session's bytes; the log, which is `ledger`'s, takes what is left.
 use rows::row;
 ghost use mathlib.Core.Path.{_≡_};
 ghost use Rattle.store.specs.Layout.{isSession, rowPlace};
