@@ -7,8 +7,8 @@ use Rattle.trains.specs.Record.{orderAt}
 use Rattle.trains.specs.declared.record.Limit.{Limit}
 use Rattle.trains.specs.declared.record.Limit.the-variants.{Bare, To}
 use Rattle.trains.specs.declared.record.Order.{Order}
-use Rattle.trains.specs.declared.record.Place.{Place}
-use Rattle.trains.specs.declared.record.Place.the-variants.{Nowhere, At}
+use Rattle.trains.specs.declared.record.Location.{Location}
+use Rattle.trains.specs.declared.record.Location.the-variants.{Nowhere, At}
 use Rattle.trains.specs.declared.record.Position.{Position}
 use Rattle.trains.specs.declared.record.Position.the-variants.{Unknown, Between}
 use Rattle.trains.specs.declared.record.Train.{Train}
@@ -29,9 +29,9 @@ unfoldable pub oneIf : Bool → ℕ
 oneIf holds = cond holds 1 0
 
 -- a location, or none
-unfoldable pub placeNumber : Place → ℕ
-placeNumber Nowhere = none
-placeNumber (At location) = location
+unfoldable pub locationNumber : Location → ℕ
+locationNumber Nowhere = none
+locationNumber (At location) = location
 
 -- the front of a position, or none
 unfoldable pub frontNumber : Position → ℕ
@@ -68,8 +68,8 @@ trainTold t = record {
   left = t .left;
   front = frontNumber (t .track .position);
   rear = rearNumber (t .track .position);
-  authority = placeNumber (t .track .granted);
-  danger = placeNumber (t .track .danger);
+  authority = locationNumber (t .track .granted);
+  danger = locationNumber (t .track .danger);
   orders = ordersTold (t .orders);
 }
 

@@ -1,12 +1,12 @@
 // A train record as numbers. Where there is no position, authority, signal or limit, the number is that of none.
 use trains::ranges;
 use trains::record::Limit;
+use trains::record::Location;
 use trains::record::Order;
-use trains::record::Place;
 use trains::record::Position;
 use trains::record::Train;
 ghost use mathlib.Core.Path.{_≡_};
-ghost use Rattle.host.specs.Told.{placeNumber, frontNumber, rearNumber, limitNumber, orderTold, ordersTold, trainTold, trainRefused};
+ghost use Rattle.host.specs.Told.{locationNumber, frontNumber, rearNumber, limitNumber, orderTold, ordersTold, trainTold, trainRefused};
 
 // An order: the other train's ticket, 0 for no order; and the limit in metres, or none for a bare one.
 #[repr(C)]
@@ -32,12 +32,12 @@ pub struct TrainAnswer {
     pub orders: [OrderTold; 4],
 }
 
-fn place_number(place: Place) -> u32
-    ensures { λ r. ⌜ r ≡ placeNumber place ⌝ }
+fn location_number(place: Location) -> u32
+    ensures { λ r. ⌜ r ≡ locationNumber place ⌝ }
 {
     match place {
-        Place::Nowhere => ranges::NONE,
-        Place::At(location) => location,
+        Location::Nowhere => ranges::NONE,
+        Location::At(location) => location,
     }
 }
 
@@ -108,8 +108,8 @@ pub fn tell(train: Train) -> TrainAnswer
         left: train.left,
         front: front_number(position),
         rear: rear_number(position),
-        authority: place_number(granted),
-        danger: place_number(danger),
+        authority: location_number(granted),
+        danger: location_number(danger),
         orders: tell_orders(orders),
     }
 }

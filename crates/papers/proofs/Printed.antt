@@ -12,7 +12,7 @@ use Rattle.packets.specs.Reading.{gatesOf, fieldsRefusal, readRefusal, readAnsw
 use Rattle.transitions.specs.Table.{table as transitions}
 use Rattle.modes.specs.Next.{choose, refuses, nextStep}
 use Rattle.trains.specs.Found.{first, isFound, orElse as orElseFound}
-use Rattle.trains.specs.Ranges.{oneTo, isPosition, isPlace, placeOf}
+use Rattle.trains.specs.Ranges.{oneTo, isPosition, isNoneOrLocation, locationFrom}
 use Rattle.trains.specs.Orders.{standsUnder, placeUnder, room, setAt}
 use Rattle.trains.specs.Changes.{leftFor}
 use Rattle.trains.specs.Authority.{nearer, nearest, limitStop, orderStop, dangerStop, orderStops, endWith}
@@ -39,7 +39,7 @@ use Rattle.papers.proofs.Viewed.{ruled, after, endIn, viewed, by-states
 viewed-as-printed : map (λ (l : Line). viewed (l .case)) table ≡ map (λ (l : Line). l .printed) table
 unfolding
     viewed ruled after endIn flagsOf bitAt field times unpack refuse orElse unlessRefused headRefusal gateWidths gateRules gateRefusal gatesOf fieldsRefusal
-    readRefusal readAnswer readInto transitions choose refuses nextStep first isFound orElseFound oneTo isPosition isPlace placeOf standsUnder placeUnder room setAt
+    readRefusal readAnswer readInto transitions choose refuses nextStep first isFound orElseFound oneTo isPosition isNoneOrLocation locationFrom standsUnder placeUnder room setAt
     leftFor nearer nearest limitStop orderStop dangerStop orderStops endWith holdsLoco isSought soughtIn findIn slotMarked marked applied among classOf cellOf
     behind shareOfL1 shareBehind when withFound granted endAnswer changedTo moved authorised signalled stepTaken stepped flagged lacksPosition lacksPlace
     shareTaken shared measured raised slotsFor isFree isRun lowestRun placed requested inRow namedIn onNamed sosRaised grants rule counterAfter

@@ -15,8 +15,8 @@ use Rattle.trains.specs.declared.found.Found.{Found}
 use Rattle.trains.specs.declared.found.Found.the-variants.{Nothing, Index}
 use Rattle.trains.specs.declared.kinds.Loco.{Loco}
 use Rattle.trains.specs.declared.kinds.Ticket.{Ticket}
-use Rattle.trains.specs.declared.record.Place.{Place}
-use Rattle.trains.specs.declared.record.Place.the-variants.{Nowhere, At}
+use Rattle.trains.specs.declared.record.Location.{Location}
+use Rattle.trains.specs.declared.record.Location.the-variants.{Nowhere, At}
 use Rattle.trains.specs.declared.record.Train.{Train}
 use Rattle.store.specs.Layout.{sessionBytes}
 use Rattle.store.specs.View.{View, findIn, viewOf, counterOf, keptOf}
@@ -79,7 +79,7 @@ other-named loco ticket v next q = other-when _ _ _ (named-other loco ticket v) 
 
 -- ---- each rule
 
-end-other : (p : Place) → Other (endAnswer p .answer)
+end-other : (p : Location) → Other (endAnswer p .answer)
 unfolding endAnswer
 end-other Nowhere = λ e. omega arith
 end-other (At end) = λ e. omega arith

@@ -16,8 +16,8 @@ use Rattle.numbers.proofs.RowLaws.{Fit, none, one}
 use Rattle.trains.specs.declared.record.Limit.{Limit}
 use Rattle.trains.specs.declared.record.Limit.the-variants.{Bare, To}
 use Rattle.trains.specs.declared.record.Order.{Order}
-use Rattle.trains.specs.declared.record.Place.{Place}
-use Rattle.trains.specs.declared.record.Place.the-variants.{Nowhere, At}
+use Rattle.trains.specs.declared.record.Location.{Location}
+use Rattle.trains.specs.declared.record.Location.the-variants.{Nowhere, At}
 use Rattle.trains.specs.declared.record.Position.{Position}
 use Rattle.trains.specs.declared.record.Position.the-variants.{Unknown, Between}
 use Rattle.trains.specs.declared.record.Track.{Track}
@@ -28,10 +28,10 @@ use Rattle.trains.specs.declared.found.Found.the-variants.{Nothing, Index}
 use Rattle.trains.specs.declared.kinds.Loco.{Loco}
 use Rattle.trains.specs.declared.kinds.Ticket.{Ticket}
 use Rattle.trains.specs.declared.kinds.Slot.{Slot}
-use Rattle.trains.specs.Changes.{changed, onTrack, reported, authorised, signalled, leftFor, withPosition, withAuthority, withSignal, withMode}
+use Rattle.trains.specs.Changes.{changed, onTrack, reported, authorised, endangered, leftFor, withPosition, withAuthority, withDanger, withMode}
 use Rattle.trains.specs.Orders.{setAt, room, orderPlace, withOrders, withOrder, orderCleared}
 use Rattle.trains.specs.Record.{noOrder, orderCount, orderAt, freshTrain}
-use Rattle.rows.specs.Parts.{bits, placeBy, limitBy, positionBy, placeFlag, placeNumber, positionFlag, positionFront, positionRear, limitFlag, limitNumber}
+use Rattle.rows.specs.Parts.{bits, locationBy, limitBy, positionBy, locationFlag, locationNumber, positionFlag, positionFront, positionRear, limitFlag, limitNumber}
 use Rattle.rows.specs.Row.{rowSizes, rowValues, trainOf, rowAt}
 
 -- ---- what fits
@@ -44,9 +44,9 @@ Byte x = x < 2 ^ 8
 abbrev pub Word : ℕ → Type 0
 Word x = x < 2 ^ 32
 
-abbrev pub PlaceFits : Place → Type 0
-PlaceFits Nowhere = Unit {0}
-PlaceFits (At x) = Word x
+abbrev pub LocationFits : Location → Type 0
+LocationFits Nowhere = Unit {0}
+LocationFits (At x) = Word x
 
 abbrev pub PositionFits : Position → Type 0
 PositionFits Unknown = Unit {0}
@@ -62,8 +62,8 @@ pub record OrderFits (o : Order) : Type 0 where
 
 pub record TrackFits (k : Track) : Type 0 where
   pub position : PositionFits (k .position)
-  pub granted : PlaceFits (k .granted)
-  pub danger : PlaceFits (k .danger)
+  pub granted : LocationFits (k .granted)
+  pub danger : LocationFits (k .danger)
 
 -- a record that a row can hold: four orders, and each number within its bytes
 pub record Fits (t : Train) : Type 0 where
@@ -79,13 +79,13 @@ pub record Fits (t : Train) : Type 0 where
 
 -- ---- each number of such a record has no more digits than its width
 
-place-flag : (p : Place) → Byte (placeFlag p)
-place-flag Nowhere = omega arith
-place-flag (At x) = omega arith
+location-flag : (p : Location) → Byte (locationFlag p)
+location-flag Nowhere = omega arith
+location-flag (At x) = omega arith
 
-place-number : (p : Place) → PlaceFits p → Word (placeNumber p)
-place-number Nowhere f = omega arith
-place-number (At x) f = f
+location-number : (p : Location) → LocationFits p → Word (locationNumber p)
+location-number Nowhere f = omega arith
+location-number (At x) f = f
 
 position-flag : (p : Position) → Byte (positionFlag p)
 position-flag Unknown = omega arith
@@ -108,8 +108,8 @@ limit-number Bare f = omega arith
 limit-number (To x) f = f
 
 -- a part of a row, and the rest of it
-place-fit : (p : Place) → PlaceFits p → {ws vs : List ℕ} → Fit ws vs → Fit (8 ∷ 32 ∷ ws) (placeFlag p ∷ placeNumber p ∷ vs)
-place-fit p f r = one (place-flag p) (one (place-number p f) r)
+place-fit : (p : Location) → LocationFits p → {ws vs : List ℕ} → Fit ws vs → Fit (8 ∷ 32 ∷ ws) (locationFlag p ∷ locationNumber p ∷ vs)
+place-fit p f r = one (location-flag p) (one (location-number p f) r)
 
 order-fit : (o : Order) → OrderFits o → {ws vs : List ℕ} → Fit ws vs
     → Fit (32 ∷ 8 ∷ 32 ∷ ws) (o .other .0 ∷ limitFlag (o .limit) ∷ limitNumber (o .limit) ∷ vs)
@@ -137,8 +137,8 @@ row-fit t f =
 
 -- ---- the numbers of such a record read back
 
-place-back : (p : Place) → placeBy (placeFlag p) (placeNumber p) ≡ p
-unfolding placeBy
+place-back : (p : Location) → locationBy (locationFlag p) (locationNumber p) ≡ p
+unfolding locationBy
 place-back Nowhere = refl
 place-back (At x) = refl
 
@@ -184,11 +184,11 @@ train-back t f =
 
 -- ---- what is read fits
 
-place-by-fits : (flag x : ℕ) → Word x → PlaceFits (placeBy flag x)
-unfolding placeBy
-place-by-fits flag x h = go (eqb flag 0)
+location-by-fits : (flag x : ℕ) → Word x → LocationFits (locationBy flag x)
+unfolding locationBy
+location-by-fits flag x h = go (eqb flag 0)
   where
-    go : (b : Bool) → PlaceFits (cond b Nowhere (At x))
+    go : (b : Bool) → LocationFits (cond b Nowhere (At x))
     go true = tt
     go false = h
 
@@ -235,8 +235,8 @@ fits-read s at =
       left = byte _;
       track = record {
         position = position-by-fits _ _ _ (word _) (word _);
-        granted = place-by-fits _ _ (word _);
-        danger = place-by-fits _ _ (word _);
+        granted = location-by-fits _ _ (word _);
+        danger = location-by-fits _ _ (word _);
       };
       four = refl;
       orders =
@@ -285,13 +285,13 @@ pub fits-position : (t : Train) (front rear : ℕ) → Fits t → Word front →
 fits-position t front rear f x y =
     on-track t (reported (t .track) front rear) f (record { position = (x, y); granted = f .track .granted; danger = f .track .danger })
 
-pub fits-authority : (t : Train) (end : Place) → Fits t → PlaceFits end → Fits (withAuthority t end)
+pub fits-authority : (t : Train) (end : Location) → Fits t → LocationFits end → Fits (withAuthority t end)
 fits-authority t end f x =
     on-track t (authorised (t .track) end) f (record { position = f .track .position; granted = x; danger = f .track .danger })
 
-pub fits-signal : (t : Train) (danger : Place) → Fits t → PlaceFits danger → Fits (withSignal t danger)
-fits-signal t danger f x =
-    on-track t (signalled (t .track) danger) f (record { position = f .track .position; granted = f .track .granted; danger = x })
+pub fits-danger : (t : Train) (danger : Location) → Fits t → LocationFits danger → Fits (withDanger t danger)
+fits-danger t danger f x =
+    on-track t (endangered (t .track) danger) f (record { position = f .track .position; granted = f .track .granted; danger = x })
 
 left-fits : (left mode : ℕ) → Byte left → Byte (leftFor left mode)
 unfolding leftFor

@@ -16,9 +16,10 @@ use Rattle.trains.specs.Kinds.{lastTicket, sameLoco, sameTicket, ticketInRange}
 use Rattle.trains.specs.Record.{noLoco}
 use Rattle.trains.proofs.FoundLaws.{Before, first-below, first-true, first-before, first-none}
 use Rattle.trains.proofs.RangeLaws.{one-to}
-use Rattle.rows.specs.declared.register.Sought.{Sought}
-use Rattle.rows.specs.declared.register.Sought.the-variants.{Pair, Empty}
-use Rattle.rows.specs.Register.{rowCount, rowOf, holdsLoco, isSought, soughtAt, foundIn}
+use Rattle.trains.specs.declared.sought.Sought.{Sought}
+use Rattle.trains.specs.declared.sought.Sought.the-variants.{Pair, Empty}
+use Rattle.trains.specs.Sought.{rowCount, holdsLoco, isSought}
+use Rattle.rows.specs.Register.{rowOf, soughtAt, foundIn}
 
 module _ (s : List ℕ) (at : ℕ) (sought : Sought) where
   -- what is found is one of the 24 rows

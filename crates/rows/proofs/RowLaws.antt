@@ -12,7 +12,7 @@ use Rattle.numbers.proofs.FieldLaws.{Bytes, same-byte, field-byte}
 use Rattle.numbers.proofs.RowLaws.{length-pack, bytes-pack, bit-pack-out, unpack-pack}
 use Rattle.trains.specs.declared.record.Train.{Train}
 use Rattle.trains.specs.Record.{blankTrain}
-use Rattle.rows.specs.Parts.{bits, trackSizes, ordersSizes, trackOf, ordersOf, trackValues, ordersValues, placeBy, limitBy, positionBy}
+use Rattle.rows.specs.Parts.{bits, trackSizes, ordersSizes, trackOf, ordersOf, trackValues, ordersValues, locationBy, limitBy, positionBy}
 use Rattle.rows.specs.Row.{rowBytes, headSizes, headValues, rowAt, putRow, rowSizes, rowValues, trainOf}
 use Rattle.rows.proofs.Bytewise.{unpack-past, pack-past, field-same, unpack-same, pack-same, bit-of-byte}
 use Rattle.rows.proofs.FitLaws.{Fits, row-fit, train-back}
@@ -65,7 +65,7 @@ put-parts s at t =
 
 -- a row past the end reads as blank
 pub row-past : (s : List ℕ) (at : ℕ) → length s ≤ at → rowAt s at ≡ blankTrain
-unfolding rowAt placeBy limitBy positionBy
+unfolding rowAt locationBy limitBy positionBy
 row-past s at h = ap trainOf (unpack-past s (8 * at) (bits rowSizes) (omega arith))
 
 -- and is not put

@@ -8,8 +8,8 @@ use lib.ListN.{getD, drop}
 use Rattle.trains.specs.declared.record.Limit.{Limit}
 use Rattle.trains.specs.declared.record.Limit.the-variants.{Bare, To}
 use Rattle.trains.specs.declared.record.Order.{Order}
-use Rattle.trains.specs.declared.record.Place.{Place}
-use Rattle.trains.specs.declared.record.Place.the-variants.{Nowhere, At}
+use Rattle.trains.specs.declared.record.Location.{Location}
+use Rattle.trains.specs.declared.record.Location.the-variants.{Nowhere, At}
 use Rattle.trains.specs.declared.record.Position.{Position}
 use Rattle.trains.specs.declared.record.Position.the-variants.{Unknown, Between}
 use Rattle.trains.specs.declared.record.Track.{Track}
@@ -22,8 +22,8 @@ bits sizes = map (λ (n : ℕ). 8 * n) sizes
 -- ---- sizes in bytes
 
 -- a place: its flag and its location
-abbrev pub placeSizes : List ℕ
-placeSizes = 1 ∷ 4 ∷ []
+abbrev pub locationSizes : List ℕ
+locationSizes = 1 ∷ 4 ∷ []
 
 -- a position: its flag, front and rear
 abbrev pub positionSizes : List ℕ
@@ -31,7 +31,7 @@ positionSizes = 1 ∷ 4 ∷ 4 ∷ []
 
 -- the track: the position, the granted end, the danger location
 abbrev pub trackSizes : List ℕ
-trackSizes = positionSizes ++ (placeSizes ++ placeSizes)
+trackSizes = positionSizes ++ (locationSizes ++ locationSizes)
 
 -- an order: the other train's ticket, the limit's flag and the limit
 abbrev pub orderSizes : List ℕ
@@ -44,14 +44,14 @@ ordersSizes = orderSizes ++ (orderSizes ++ (orderSizes ++ orderSizes))
 -- ---- what is put
 
 -- 1 for a place, 0 for none
-abbrev pub placeFlag : Place → ℕ
-placeFlag Nowhere = 0
-placeFlag (At x) = 1
+abbrev pub locationFlag : Location → ℕ
+locationFlag Nowhere = 0
+locationFlag (At x) = 1
 
 -- the location, 0 for none
-abbrev pub placeNumber : Place → ℕ
-placeNumber Nowhere = 0
-placeNumber (At x) = x
+abbrev pub locationNumber : Location → ℕ
+locationNumber Nowhere = 0
+locationNumber (At x) = x
 
 -- 1 for a position, 0 for none
 abbrev pub positionFlag : Position → ℕ
@@ -79,8 +79,8 @@ limitNumber Bare = 0
 limitNumber (To x) = x
 
 -- the numbers of a place
-abbrev pub placeValues : Place → List ℕ
-placeValues p = placeFlag p ∷ placeNumber p ∷ []
+abbrev pub locationValues : Location → List ℕ
+locationValues p = locationFlag p ∷ locationNumber p ∷ []
 
 -- the numbers of a position
 abbrev pub positionValues : Position → List ℕ
@@ -88,7 +88,7 @@ positionValues p = positionFlag p ∷ positionFront p ∷ positionRear p ∷ []
 
 -- the numbers of the track
 abbrev pub trackValues : Track → List ℕ
-trackValues k = positionValues (k .position) ++ (placeValues (k .granted) ++ placeValues (k .danger))
+trackValues k = positionValues (k .position) ++ (locationValues (k .granted) ++ locationValues (k .danger))
 
 -- the numbers of an order
 abbrev pub orderValues : Order → List ℕ
@@ -102,8 +102,8 @@ ordersValues os =
 -- ---- what is read
 
 -- a place by its flag
-unfoldable pub placeBy : ℕ → ℕ → Place
-placeBy flag x = cond (eqb flag 0) Nowhere (At x)
+unfoldable pub locationBy : ℕ → ℕ → Location
+locationBy flag x = cond (eqb flag 0) Nowhere (At x)
 
 -- a limit by its flag
 unfoldable pub limitBy : ℕ → ℕ → Limit
@@ -114,15 +114,15 @@ unfoldable pub positionBy : ℕ → ℕ → ℕ → Position
 positionBy flag front rear = cond (eqb flag 0) Unknown (Between front rear)
 
 -- the place that numbers read as
-abbrev pub placeOf : List ℕ → Place
-placeOf vs = placeBy (getD vs 0 0) (getD vs 1 0)
+abbrev pub locationOf : List ℕ → Location
+locationOf vs = locationBy (getD vs 0 0) (getD vs 1 0)
 
 -- the track that numbers read as
 abbrev pub trackOf : List ℕ → Track
 trackOf vs = record {
   position = positionBy (getD vs 0 0) (getD vs 1 0) (getD vs 2 0);
-  granted = placeOf (drop 3 vs);
-  danger = placeOf (drop 5 vs);
+  granted = locationOf (drop 3 vs);
+  danger = locationOf (drop 5 vs);
 }
 
 -- the order that numbers read as

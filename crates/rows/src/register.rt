@@ -2,18 +2,13 @@
 use trains::found::Found;
 use trains::kinds::Loco;
 use trains::kinds::Ticket;
+use trains::sought::ROWS;
+use trains::sought::Sought;
 ghost use mathlib.Core.Path.{_≡_};
 ghost use Prim.Native.Nat.{_<_};
-ghost use Rattle.rows.specs.Register.{rowCount, rowOf, holdsLoco, isSought, foundIn, findTrain, findLoco, findEmpty};
-
-pub const ROWS: usize = 24;
-
-// What a search looks for: a loco and a ticket together, a loco, or an empty row.
-pub enum Sought {
-    Pair(Loco, Ticket),
-    Number(Loco),
-    Empty,
-}
+ghost use Rattle.trains.specs.Sought.{rowCount, isSought};
+ghost use Rattle.trains.specs.declared.sought.Sought.the-variants.{Pair};
+ghost use Rattle.rows.specs.Register.{rowOf, foundIn, findTrain, findLoco, findEmpty};
 
 fn loco_of(register: &[u8], at: usize, i: usize) -> Loco
     requires { ⌜ i < rowCount ⌝ }
@@ -35,19 +30,12 @@ fn ticket_of(register: &[u8], at: usize, i: usize) -> Ticket
     Ticket(numbers::word_at(register, at + crate::row::ROW * i + 4))
 }
 
-// A row's loco number is the one wanted, and the row is not empty.
-fn holds_loco(loco: Loco, wanted: Loco) -> bool
-    ensures { λ r. ⌜ r ≡ holdsLoco loco wanted ⌝ }
-{
-    !loco.is(Loco(0)) && loco.is(wanted)
-}
-
 // A ticket out of range names no train.
 fn holds_pair(register: &[u8], at: usize, i: usize, loco: Loco, ticket: Ticket) -> bool
     requires { ⌜ i < rowCount ⌝ }
-    ensures { λ r. ⌜ r ≡ isSought (Sought.Pair loco ticket) (rowOf (now (register .entry)) at i) ⌝ }
+    ensures { λ r. ⌜ r ≡ isSought (Pair loco ticket) (rowOf (now (register .entry)) at i) ⌝ }
 {
-    if !holds_loco(loco_of(register, at, i), loco) {
+    if !loco_of(register, at, i).holds(loco) {
         return false;
     }
     if !ticket.in_range() {
@@ -63,7 +51,7 @@ fn row_holds(register: &[u8], at: usize, i: usize, sought: Sought) -> bool
 {
     match sought {
         Sought::Pair(loco, ticket) => holds_pair(register, at, i, loco, ticket),
-        Sought::Number(loco) => holds_loco(loco_of(register, at, i), loco),
+        Sought::Number(loco) => loco_of(register, at, i).holds(loco),
         Sought::Empty => loco_of(register, at, i).is(Loco(0)),
     }
 }

@@ -3,28 +3,28 @@ use trains::kinds::Loco;
 use trains::kinds::Slot;
 use trains::kinds::Ticket;
 use trains::record::Limit;
+use trains::record::Location;
 use trains::record::Order;
-use trains::record::Place;
 use trains::record::Position;
 use trains::record::Track;
 use trains::record::Train;
 ghost use mathlib.Core.Path.{_≡_};
 ghost use Prim.Native.Nat.{_+_, _*_, _^_, _<_};
 ghost use Rattle.numbers.specs.Rows.{unpack, pack};
-ghost use Rattle.rows.specs.Parts.{bits, placeSizes, positionSizes, trackSizes, orderSizes, ordersSizes, placeBy, limitBy, positionBy, placeOf, trackOf, orderOf, ordersOf};
-ghost use Rattle.rows.specs.Parts.{placeFlag, placeNumber, limitFlag, limitNumber, positionFlag, positionFront, positionRear, placeValues, positionValues, trackValues, orderValues, ordersValues};
+ghost use Rattle.rows.specs.Parts.{bits, locationSizes, positionSizes, trackSizes, orderSizes, ordersSizes, locationBy, limitBy, positionBy, locationOf, trackOf, orderOf, ordersOf};
+ghost use Rattle.rows.specs.Parts.{locationFlag, locationNumber, limitFlag, limitNumber, positionFlag, positionFront, positionRear, locationValues, positionValues, trackValues, orderValues, ordersValues};
 ghost use Rattle.rows.specs.Row.{headSizes, headValues, rowAt, putRow};
 
 // The bytes of a row.
 pub const ROW: usize = 67;
 
-fn place_by(flag: u32, x: u32) -> Place
-    ensures { λ r. ⌜ r ≡ placeBy flag x ⌝ }
+fn location_by(flag: u32, x: u32) -> Location
+    ensures { λ r. ⌜ r ≡ locationBy flag x ⌝ }
 {
     if flag == 0 {
-        Place::Nowhere
+        Location::Nowhere
     } else {
-        Place::At(x)
+        Location::At(x)
     }
 }
 
@@ -44,11 +44,11 @@ fn position_by(flag: u32, front: u32, rear: u32) -> Position
     }
 }
 
-fn place_at(s: &[u8], i: usize) -> Place
+fn location_at(s: &[u8], i: usize) -> Location
     requires { ⌜ i + 5 < 2 ^ 64 ⌝ }
-    ensures { λ r. ⌜ r ≡ placeOf (unpack (now (s .entry)) (8 * i) (bits placeSizes)) ⌝ }
+    ensures { λ r. ⌜ r ≡ locationOf (unpack (now (s .entry)) (8 * i) (bits locationSizes)) ⌝ }
 {
-    place_by(numbers::byte_at(s, i), numbers::word_at(s, i + 1))
+    location_by(numbers::byte_at(s, i), numbers::word_at(s, i + 1))
 }
 
 fn order_at(s: &[u8], i: usize) -> Order
@@ -71,8 +71,8 @@ fn track_at(s: &[u8], i: usize) -> Track
             numbers::word_at(s, i + 1),
             numbers::word_at(s, i + 5),
         ),
-        granted: place_at(s, i + 9),
-        danger: place_at(s, i + 14),
+        granted: location_at(s, i + 9),
+        danger: location_at(s, i + 14),
     }
 }
 
@@ -109,21 +109,21 @@ pub fn row_at(bytes: &[u8], at: usize) -> Train
     }
 }
 
-fn place_flag(p: Place) -> u32
-    ensures { λ r. ⌜ r ≡ placeFlag p ⌝ }
+fn location_flag(p: Location) -> u32
+    ensures { λ r. ⌜ r ≡ locationFlag p ⌝ }
 {
     match p {
-        Place::Nowhere => 0,
-        Place::At(_) => 1,
+        Location::Nowhere => 0,
+        Location::At(_) => 1,
     }
 }
 
-fn place_number(p: Place) -> u32
-    ensures { λ r. ⌜ r ≡ placeNumber p ⌝ }
+fn location_number(p: Location) -> u32
+    ensures { λ r. ⌜ r ≡ locationNumber p ⌝ }
 {
     match p {
-        Place::Nowhere => 0,
-        Place::At(x) => x,
+        Location::Nowhere => 0,
+        Location::At(x) => x,
     }
 }
 
@@ -172,12 +172,12 @@ fn position_rear(p: Position) -> u32
     }
 }
 
-fn put_place(out: &mut [u8], i: usize, p: Place)
+fn put_location(out: &mut [u8], i: usize, p: Location)
     requires { ⌜ i + 5 < 2 ^ 64 ⌝ }
-    ensures { λ _. ⌜ now (out .exit) ≡ pack (now (out .entry)) (8 * i) (bits placeSizes) (placeValues p) ⌝ }
+    ensures { λ _. ⌜ now (out .exit) ≡ pack (now (out .entry)) (8 * i) (bits locationSizes) (locationValues p) ⌝ }
 {
-    numbers::put_byte(out, i, place_flag(p));
-    numbers::put_word(out, i + 1, place_number(p));
+    numbers::put_byte(out, i, location_flag(p));
+    numbers::put_word(out, i + 1, location_number(p));
 }
 
 fn put_order(out: &mut [u8], i: usize, order: Order)
@@ -207,8 +207,8 @@ fn put_track(out: &mut [u8], i: usize, track: Track)
     let granted = track.granted;
     let danger = track.danger;
     put_position(out, i, position);
-    put_place(out, i + 9, granted);
-    put_place(out, i + 14, danger);
+    put_location(out, i + 9, granted);
+    put_location(out, i + 14, danger);
 }
 
 fn put_head(out: &mut [u8], i: usize, t: Train)

@@ -1,4 +1,1 @@
-pub mod SlotLaws
-pub mod NamedLaws
-pub mod BoundLaws
-pub mod RequestLaws
+pub mod ChainLaws

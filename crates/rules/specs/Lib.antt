@@ -1,5 +1,11 @@
+pub mod Refusals
+pub mod Settings
+pub mod View
+pub mod Effect
+pub mod Ruling
 pub mod Slots
 pub mod Named
-pub mod Requesting
+pub mod Registering
+pub mod Deeds
+pub mod Raising
 pub mod Rules
-pub mod Judged

@@ -1,50 +1,46 @@
--- THE RULES: the operations with their arguments, and what each does to a view. A request takes its ticket as an argument, so a replay that
--- keeps each grant's ticket is the same rule.
-use mathlib.Core.Bool.{Bool, true, false, cond}
-use mathlib.Core.List.{List}
-use Prim.Native.Nat.{ℕ, suc}
+-- THE RULES: the operations with their arguments, the grounds on which each is refused, and what it does. A request takes its ticket as an argument,
+-- so a replay that keeps each grant's ticket is the same rule.
+use mathlib.Core.Bool.{Bool, true, false}
+use Prim.Native.Nat.{ℕ}
 use Rattle.trains.specs.declared.kinds.Loco.{Loco}
 use Rattle.trains.specs.declared.kinds.Ticket.{Ticket}
-use Rattle.store.specs.View.{View}
-use Rattle.rulings.specs.declared.ruling.Ruling.{Ruling}
-use Rattle.rules.specs.Named.{namedIn, onNamed, sosRaised}
-use Rattle.rulings.specs.Registering.{released}
-use Rattle.rules.specs.Requesting.{requested}
-use Rattle.rulings.specs.Running.{flagged, moved, authorised, signalled, cleared}
+use Rattle.rules.specs.declared.ruling.Ruling.{Ruling}
+use Rattle.rules.specs.declared.settings.Settings.{Settings}
+use Rattle.rules.specs.Deeds.{Deed, done, deedGround, deedDone}
+use Rattle.rules.specs.Named.{namedIn, nameGround}
+use Rattle.rules.specs.Raising.{sosGround, raised}
+use Rattle.rules.specs.Registering.{requestGround, requested, released}
+use Rattle.rules.specs.Ruling.{ruled}
+use Rattle.rules.specs.View.{View}
 
--- the operations, step-back apart
+-- the operations, step-back apart; an SOS names L2 first
 pub data Op : Type 0 where
   request : Loco → ℕ → Op
   release : Loco → Ticket → Op
-  flags : Loco → Ticket → List ℕ → Op
-  position : Loco → Ticket → ℕ → ℕ → Op
-  authority : Loco → Ticket → ℕ → Op
-  danger : Loco → Ticket → ℕ → Op
+  on : Loco → Ticket → Deed → Op
   sos : Loco → Ticket → Loco → Ticket → ℕ → Op
-  clear : Loco → Ticket → Ticket → Op
 
 -- only a request takes a ticket
 unfoldable pub grants : Op → Bool
 grants (request loco bytes) = true
 grants (release loco ticket) = false
-grants (flags loco ticket fs) = false
-grants (position loco ticket front rear) = false
-grants (authority loco ticket end) = false
-grants (danger loco ticket location) = false
+grants (on loco ticket deed) = false
 grants (sos loco2 ticket2 loco1 ticket1 grid) = false
-grants (clear loco ticket other) = false
 
--- what an operation does to a view, under a ticket where it is a request
-unfoldable pub rule : Op → ℕ → View → Ruling
-rule (request loco bytes) t v = requested loco bytes t v
-rule (release loco ticket) t v = onNamed (namedIn loco ticket v) released
-rule (flags loco ticket fs) t v = onNamed (namedIn loco ticket v) (flagged fs)
-rule (position loco ticket front rear) t v = onNamed (namedIn loco ticket v) (moved front rear)
-rule (authority loco ticket end) t v = onNamed (namedIn loco ticket v) (authorised end)
-rule (danger loco ticket location) t v = onNamed (namedIn loco ticket v) (signalled location)
-rule (sos loco2 ticket2 loco1 ticket1 grid) t v = sosRaised loco2 ticket2 loco1 ticket1 grid v
-rule (clear loco ticket other) t v = onNamed (namedIn loco ticket v) (cleared other)
+-- THE GROUND on which an operation is refused where the counter stands here; 0 for none
+unfoldable pub groundOf : Settings → Op → Ticket → View → ℕ
+groundOf s (request loco bytes) counter v = requestGround (s .carries) loco bytes counter v
+groundOf s (release loco ticket) counter v = nameGround (namedIn loco ticket v) 0
+groundOf s (on loco ticket deed) counter v = deedGround (namedIn loco ticket v) (done deed (namedIn loco ticket v .train))
+groundOf s (sos loco2 ticket2 loco1 ticket1 grid) counter v = sosGround (s .margin) grid (namedIn loco2 ticket2 v) (namedIn loco1 ticket1 v)
 
--- the counter after an accepted operation
-unfoldable pub counterAfter : Op → ℕ → ℕ
-counterAfter o counter = cond (grants o) (suc counter) counter
+-- WHAT AN OPERATION DOES where there is none, under a ticket where it is a request
+unfoldable pub doneBy : Settings → Op → Ticket → Ticket → View → Ruling
+doneBy s (request loco bytes) counter t v = requested (s .carries) loco bytes t v
+doneBy s (release loco ticket) counter t v = released counter (namedIn loco ticket v)
+doneBy s (on loco ticket deed) counter t v = deedDone counter (namedIn loco ticket v) (done deed (namedIn loco ticket v .train))
+doneBy s (sos loco2 ticket2 loco1 ticket1 grid) counter t v = raised (s .margin) grid counter (namedIn loco2 ticket2 v) (namedIn loco1 ticket1 v)
+
+-- THE RULE: what is said of an operation on a view, where the counter stands here
+unfoldable pub rule : Settings → Op → Ticket → Ticket → View → Ruling
+rule s o counter t v = ruled counter (groundOf s o counter v) (doneBy s o counter t v)

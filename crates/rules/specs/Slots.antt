@@ -1,39 +1,57 @@
 -- The slot book: how many slots a request needs, and where they are. `perSlot` is the bytes that a slot carries.
-use mathlib.Core.Bool.{Bool, true, _&&_}
+use mathlib.Core.Bool.{Bool, true, false, not, _&&_}
 use mathlib.Core.List.{List}
 use Prim.Native.Nat.{ℕ, zero, suc, _+_, _-_, _*_, _/_}
-use lib.Dec.{eqb}
-use lib.ListN.{getD}
 use Rattle.trains.specs.Found.{first}
-use Rattle.trains.specs.Kinds.{lastSlot}
+use Rattle.trains.specs.Kinds.{lastSlot, slotInRange}
 use Rattle.trains.specs.Ranges.{oneTo}
 use Rattle.trains.specs.declared.found.Found.{Found}
-
--- a slot carries 54 bytes
-abbrev pub bytesPerSlot : ℕ
-bytesPerSlot = 54
+use Rattle.trains.specs.declared.found.Found.the-variants.{Nothing, Index}
+use Rattle.trains.specs.declared.kinds.Slot.{Slot}
+use Rattle.rules.specs.declared.slots.FreeRun.{FreeRun}
+use Rattle.rules.specs.declared.slots.FreeRun.the-variants.{NoRun, From}
+use Rattle.rules.specs.View.{isTaken}
 
 -- a request may need six slots
 abbrev pub mostSlots : ℕ
 mostSlots = 6
 
 -- a request is for 1 byte to six slots' worth
-abbrev pub isRequest : ℕ → ℕ → Bool
+unfoldable pub isRequest : ℕ → ℕ → Bool
 isRequest perSlot bytes = oneTo (mostSlots * perSlot) bytes
 
 -- the slots that a request needs: its bytes by those of a slot, rounded up
 unfoldable pub slotsFor : ℕ → ℕ → ℕ
 slotsFor perSlot bytes = (bytes + (perSlot - 1)) / perSlot
 
+-- the slot with a number
+abbrev pub slotOf : ℕ → Slot
+slotOf n = record { 0 = n }
+
 -- a slot is one of the book's, and free
-unfoldable pub isFree : List ℕ → ℕ → Bool
-isFree book slot = oneTo lastSlot slot && eqb (getD book (slot - 1) 0) 0
+unfoldable pub isFree : List ℕ → Slot → Bool
+isFree book slot = slotInRange slot && not (isTaken book slot)
 
 -- n slots side by side from one on are free
 unfoldable pub isRun : List ℕ → ℕ → ℕ → Bool
 isRun book slot zero = true
-isRun book slot (suc n) = isFree book slot && isRun book (suc slot) n
+isRun book slot (suc n) = isFree book (slotOf slot) && isRun book (suc slot) n
+
+-- the run from a start that was found
+unfoldable pub runFrom : Found → FreeRun
+runFrom Nothing = NoRun
+runFrom (Index start) = From (slotOf start)
 
 -- the lowest start where n slots side by side are free
-unfoldable pub lowestRun : List ℕ → ℕ → Found
-lowestRun book n = first (λ start. isRun book start n) 1 lastSlot
+unfoldable pub lowestRun : List ℕ → ℕ → FreeRun
+lowestRun book n = runFrom (first (λ start. isRun book start n) 1 lastSlot)
+
+-- there is such a start
+unfoldable pub isRunFound : FreeRun → Bool
+isRunFound NoRun = false
+isRunFound (From start) = true
+
+-- and it is this slot; 0 where there is none
+unfoldable pub startOf : FreeRun → Slot
+startOf NoRun = slotOf 0
+startOf (From start) = start

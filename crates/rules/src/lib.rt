@@ -1,6 +1,10 @@
-// The rules: what each operation answers, and what it does to the trains and the slots of a session that is only read.
-pub mod judging;
+// What the paper says of each operation, over trains by value and with no bytes of a session: deeds on one train, grant and release, SOS.
+pub mod deeds;
+pub mod effect;
 pub mod named;
-mod refusals;
-mod requesting;
-mod slots;
+pub mod raising;
+pub mod refusals;
+pub mod registering;
+pub mod ruling;
+pub mod settings;
+pub mod slots;

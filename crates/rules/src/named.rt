@@ -1,51 +1,41 @@
 // The train that a loco and a ticket name together.
 use crate::refusals;
-use store::view;
-use trains::found::Found;
 use trains::kinds::Loco;
-use trains::kinds::Ticket;
 use trains::record::Train;
+use trains::sought::ROWS;
 ghost use mathlib.Core.Path.{_≡_};
-ghost use Rattle.store.specs.View.{viewOf};
-ghost use Rattle.rules.specs.Named.{nobody, inRow, namedIn};
+ghost use Rattle.rules.specs.Named.{nobody, nameGround};
 
-// A refusal's number, or 0 with the train and its row.
+// The loco that was named, and whether a live train has it and the ticket: then the train and its row, else a blank one and no row.
 pub struct Named {
-    pub answer: u32,
+    pub loco: Loco,
+    pub live: bool,
     pub row: usize,
     pub train: Train,
 }
 
 impl Named {
-    fn nobody(ground: u32) -> Named
-        ensures { λ r. ⌜ r ≡ nobody ground ⌝ }
+    pub fn nobody(loco: Loco) -> Named
+        ensures { λ r. ⌜ r ≡ nobody loco ⌝ }
     {
         Named {
-            answer: ground,
-            row: 0,
+            loco,
+            live: false,
+            row: ROWS,
             train: Train::blank(),
         }
     }
-}
 
-fn in_row(s: &[u8], found: Found) -> Named
-    ensures { λ r. ⌜ r ≡ inRow (viewOf (now (s .entry))) found ⌝ }
-{
-    match found {
-        Found::Nothing => Named::nobody(refusals::NO_LIVE_TRAIN),
-        Found::Index(row) => Named {
-            answer: 0,
-            row,
-            train: view::train(s, row),
-        },
+    // The ground on which the name is refused, or else the one that follows.
+    pub fn ground(self, next: u32) -> u32
+        ensures { λ r. ⌜ r ≡ nameGround self next ⌝ }
+    {
+        if !self.loco.in_range() {
+            return refusals::BAD_LOCO;
+        }
+        if !self.live {
+            return refusals::NO_LIVE_TRAIN;
+        }
+        next
     }
-}
-
-pub fn find(s: &[u8], loco: Loco, ticket: Ticket) -> Named
-    ensures { λ r. ⌜ r ≡ namedIn loco ticket (viewOf (now (s .entry))) ⌝ }
-{
-    if loco.in_range() {
-        return in_row(s, view::find(s, loco, ticket));
-    }
-    Named::nobody(refusals::BAD_LOCO)
 }

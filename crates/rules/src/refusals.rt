@@ -1,4 +1,10 @@
-// The grounds on which a request, or a name, is refused, each with its number, in the order of the checks.
+// The grounds on which a call on a session is refused, each with its number, in the order of the checks.
+
+// a record with a wrong mark, kind or length, or cut
+pub const BAD_RECORD: u32 = 24;
+
+// the lent session has another length
+pub const WRONG_LENGTH: u32 = 34;
 
 // a named loco number out of range
 pub const BAD_LOCO: u32 = 10;
@@ -20,3 +26,33 @@ pub const NO_FREE_RUN: u32 = 15;
 
 // no live train has this loco and ticket
 pub const NO_LIVE_TRAIN: u32 = 16;
+
+// both trains of an SOS are the same
+pub const SAME_TRAIN: u32 = 23;
+
+// a position that is none: a location out of range, or the rear above the front
+pub const BAD_POSITION: u32 = 17;
+
+// an authority's end or a danger location out of range
+pub const BAD_LOCATION: u32 = 17;
+
+// no grid has this number
+pub const BAD_GRID: u32 = 17;
+
+// a train of an SOS whose mode has no row class
+pub const NO_CLASS: u32 = 19;
+
+// the grid gives nothing for L2's class
+pub const NOT_APPLICABLE: u32 = 19;
+
+// a position that the measure needs was never reported
+pub const NO_POSITION: u32 = 18;
+
+// no place for an order
+pub const NO_PLACE: u32 = 20;
+
+// no order under that ticket
+pub const NO_SUCH_ORDER: u32 = 21;
+
+// a step back by more than the entries kept
+pub const TOO_FAR_BACK: u32 = 22;

@@ -10,19 +10,19 @@ use Rattle.modes.specs.declared.Step.{Step}
 use Rattle.modes.specs.Next.{refuses, nextStep}
 use Rattle.modes.proofs.Laws.{refused-exactly-on-its-grounds, next-is-a-mode}
 use Rattle.rows.specs.declared.register.Sought.the-variants.{Pair}
-use Rattle.rows.proofs.FitLaws.{Byte, Word, PlaceFits, Fits, fits-fresh, fits-position, fits-authority, fits-signal, fits-mode, fits-cleared}
+use Rattle.rows.proofs.FitLaws.{Byte, Word, LocationFits, Fits, fits-fresh, fits-position, fits-authority, fits-danger, fits-mode, fits-cleared}
 use Rattle.sos.specs.Grids.{measureOf, cellOf}
 use Rattle.sos.specs.Shares.{margin, shareOfL1, shareOfL2}
 use Rattle.trains.specs.Changes.{withMode}
 use Rattle.trains.proofs.RangeLaws.{one-to, position-ends}
 use Rattle.trains.specs.Kinds.{lastLoco, lastTicket, locoInRange}
 use Rattle.trains.specs.Orders.{hasOrder}
-use Rattle.trains.specs.Ranges.{none, lastLocation, isLocation, isPlace, placeOf}
+use Rattle.trains.specs.Ranges.{none, lastLocation, isLocation, isNoneOrLocation, locationFrom}
 use Rattle.trains.specs.declared.found.Found.{Found}
 use Rattle.trains.specs.declared.found.Found.the-variants.{Nothing, Index}
 use Rattle.trains.specs.declared.kinds.Loco.{Loco}
 use Rattle.trains.specs.declared.kinds.Ticket.{Ticket}
-use Rattle.trains.specs.declared.record.Place.the-variants.{Nowhere, At}
+use Rattle.trains.specs.declared.record.Location.the-variants.{Nowhere, At}
 use Rattle.trains.specs.declared.record.Train.{Train}
 use Rattle.store.specs.View.{View, findIn}
 use Rattle.ledger.proofs.SettledLaws.{EffectFits}
@@ -107,11 +107,11 @@ fit-requested loco bytes ticket v =
     fit-found _ _ _ (λ row e.
     fit-placed loco (slotsFor bytesPerSlot bytes) ticket v row (loco-fits loco inRange) (omega (arith, slots-few bytes (request-small bytes few)))))))
 
-place-fits : (number : ℕ) → isPlace number ≡ true → PlaceFits (placeOf number)
-unfolding isPlace placeOf
+place-fits : (number : ℕ) → isNoneOrLocation number ≡ true → LocationFits (locationFrom number)
+unfolding isNoneOrLocation locationFrom
 place-fits number e = go (eqb number none) e
   where
-    go : (b : Bool) → (b || isLocation number) ≡ true → PlaceFits (cond b Nowhere (At number))
+    go : (b : Bool) → (b || isLocation number) ≡ true → LocationFits (cond b Nowhere (At number))
     go true h = tt
     go false h = let l : number ≤ lastLocation = leb-true number lastLocation h in omega arith
 
@@ -149,11 +149,11 @@ module _ (row : ℕ) (t : Train) (f : Fits t) where
 
   fit-authorised : (end : ℕ) → TrainsFit (authorised end row t)
   unfolding authorised
-  fit-authorised end = fit-unless _ _ _ (λ e. fit-changed _ (fits-authority t (placeOf end) f (place-fits end e)))
+  fit-authorised end = fit-unless _ _ _ (λ e. fit-changed _ (fits-authority t (locationFrom end) f (place-fits end e)))
 
   fit-signalled : (location : ℕ) → TrainsFit (signalled location row t)
   unfolding signalled
-  fit-signalled location = fit-unless _ _ _ (λ e. fit-changed _ (fits-signal t (placeOf location) f (place-fits location e)))
+  fit-signalled location = fit-unless _ _ _ (λ e. fit-changed _ (fits-danger t (locationFrom location) f (place-fits location e)))
 
   fit-cleared : (other : Ticket) → TrainsFit (cleared other row t)
   unfolding cleared

@@ -5,8 +5,8 @@ use session::questions;
 use trains::kinds::Slot;
 use trains::orders::ORDERS;
 use trains::record::Limit;
+use trains::record::Location;
 use trains::record::Order;
-use trains::record::Place;
 use trains::record::Position;
 use trains::record::Train;
 
@@ -46,10 +46,10 @@ fn position(p: Position) {
     }
 }
 
-fn place(p: Place) {
+fn place(p: Location) {
     match p {
-        Place::Nowhere => text(b" -"),
-        Place::At(x) => number(x),
+        Location::Nowhere => text(b" -"),
+        Location::At(x) => number(x),
     }
 }
 

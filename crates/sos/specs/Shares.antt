@@ -1,4 +1,4 @@
--- What the measures M2 to M6 of an SOS give to L1 and to L2. Locations are those reported when it is raised.
+-- What the measures M2 to M6 of an SOS give to L1 and to L2. Locations are those reported when it is raised; the margin is in metres.
 use mathlib.Core.Bool.{cond}
 use Prim.Native.Nat.{ℕ, _-_}
 use lib.Dec.{eqb}
@@ -9,19 +9,15 @@ use Rattle.trains.specs.declared.record.Train.{Train}
 use Rattle.sos.specs.declared.shares.Share.{Share}
 use Rattle.sos.specs.declared.shares.Share.the-variants.{Nothing, NoPosition, Order}
 
--- how far behind L1's rear M2 limits L2, in metres
-abbrev pub margin : ℕ
-margin = 300
-
 -- a limit at the train's own front
 unfoldable pub ownFront : Position → Share
 ownFront Unknown = NoPosition
 ownFront (Between front rear) = Order (To front)
 
--- a limit that far behind a train's rear, not below 0
+-- a limit the margin behind a train's rear, not below 0
 unfoldable pub behind : Position → ℕ → Share
-behind Unknown distance = NoPosition
-behind (Between front rear) distance = Order (To (rear - distance))
+behind Unknown margin = NoPosition
+behind (Between front rear) margin = Order (To (rear - margin))
 
 -- a measure that gives something, and the measures after it
 abbrev pub when : ℕ → ℕ → Share → Share → Share
@@ -36,8 +32,8 @@ shareOfL1 measure l1 =
 
 -- M2: L2 to the rear of the train ahead less the margin. M3 and M4: L2 to its own front. M5 and M6: bare
 unfoldable pub shareBehind : ℕ → Position → Position → ℕ → Share
-shareBehind measure ahead own distance =
-    when measure 2 (behind ahead distance)
+shareBehind measure ahead own margin =
+    when measure 2 (behind ahead margin)
     (when measure 3 (ownFront own)
     (when measure 4 (ownFront own)
     (when measure 5 (Order Bare)
@@ -46,4 +42,4 @@ shareBehind measure ahead own distance =
 
 -- what L2 gets, of an SOS between L1 and L2
 abbrev pub shareOfL2 : ℕ → Train → Train → ℕ → Share
-shareOfL2 measure l1 l2 distance = shareBehind measure (l1 .track .position) (l2 .track .position) distance
+shareOfL2 measure l1 l2 margin = shareBehind measure (l1 .track .position) (l2 .track .position) margin

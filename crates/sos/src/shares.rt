@@ -3,7 +3,7 @@ use trains::record::Limit;
 use trains::record::Position;
 use trains::record::Train;
 ghost use mathlib.Core.Path.{_≡_};
-ghost use Rattle.sos.specs.Shares.{margin, ownFront, behind, shareBehind, shareOfL1, shareOfL2};
+ghost use Rattle.sos.specs.Shares.{ownFront, behind, shareBehind, shareOfL1, shareOfL2};
 
 const M2: u32 = 2;
 
@@ -14,13 +14,6 @@ const M4: u32 = 4;
 const M5: u32 = 5;
 
 const M6: u32 = 6;
-
-// How far behind L1's rear M2 limits L2, in metres.
-pub fn margin() -> u32
-    ensures { λ r. ⌜ r ≡ margin ⌝ }
-{
-    300
-}
 
 // What one train of an SOS gets. `NoPosition`: a position that the measure needs was never reported.
 pub enum Share {
@@ -39,28 +32,28 @@ fn own_front(position: Position) -> Share
     }
 }
 
-// A limit behind the rear of the train ahead, not below 0.
-fn behind(position: Position, distance: u32) -> Share
-    ensures { λ r. ⌜ r ≡ behind position distance ⌝ }
+// A limit the margin behind the rear of the train ahead, not below 0.
+fn behind(position: Position, margin: u32) -> Share
+    ensures { λ r. ⌜ r ≡ behind position margin ⌝ }
 {
     match position {
         Position::Unknown => Share::NoPosition,
         Position::Between(_, rear) => {
-            if rear < distance {
+            if rear < margin {
                 Share::Order(Limit::To(0))
             } else {
-                Share::Order(Limit::To(rear - distance))
+                Share::Order(Limit::To(rear - margin))
             }
         }
     }
 }
 
 // What L2 gets, by the position of the train ahead, L1, and its own.
-fn share_behind(measure: u32, ahead: Position, own: Position, distance: u32) -> Share
-    ensures { λ r. ⌜ r ≡ shareBehind measure ahead own distance ⌝ }
+fn share_behind(measure: u32, ahead: Position, own: Position, margin: u32) -> Share
+    ensures { λ r. ⌜ r ≡ shareBehind measure ahead own margin ⌝ }
 {
     match measure {
-        M2 => behind(ahead, distance),
+        M2 => behind(ahead, margin),
         M3 => own_front(own),
         M4 => own_front(own),
         M5 => Share::Order(Limit::Bare),
@@ -81,12 +74,12 @@ pub fn share_of_l1(measure: u32, l1: Train) -> Share
     }
 }
 
-pub fn share_of_l2(measure: u32, l1: Train, l2: Train, distance: u32) -> Share
-    ensures { λ r. ⌜ r ≡ shareOfL2 measure l1 l2 distance ⌝ }
+pub fn share_of_l2(measure: u32, l1: Train, l2: Train, margin: u32) -> Share
+    ensures { λ r. ⌜ r ≡ shareOfL2 measure l1 l2 margin ⌝ }
 {
     let track1 = l1.track;
     let track2 = l2.track;
     let ahead = track1.position;
     let own = track2.position;
-    share_behind(measure, ahead, own, distance)
+    share_behind(measure, ahead, own, margin)
 }

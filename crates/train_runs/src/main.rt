@@ -11,11 +11,14 @@ use trains::kinds::Loco;
 use trains::kinds::Slot;
 use trains::kinds::Ticket;
 use trains::record::Limit;
-use trains::record::Place;
+use trains::record::Location;
 use trains::record::Train;
 use transitions::names;
 
 const STANDARD_OUTPUT: i32 = 1;
+
+// Document 01 limits L2 by M2 to this far behind L1.
+const MARGIN: u32 = 300;
 
 fn text(s: &[u8]) {
     io::write_all(STANDARD_OUTPUT, s);
@@ -84,10 +87,10 @@ fn share(s: Share) {
     }
 }
 
-fn place(p: Place) {
+fn place(p: Location) {
     match p {
-        Place::Nowhere => text(b" none"),
-        Place::At(x) => number(x),
+        Location::Nowhere => text(b" none"),
+        Location::At(x) => number(x),
     }
 }
 
@@ -109,15 +112,15 @@ fn first_train() -> Train {
 fn second_train() -> Train {
     Train::fresh(Loco(8), Ticket(2), Slot(3), 1)
         .with_mode(names::FS)
-        .with_authority(Place::At(9000))
-        .with_signal(Place::At(7500))
+        .with_authority(Location::At(9000))
+        .with_danger(Location::At(7500))
 }
 
 fn share_line(measure: u32, l1: Train, l2: Train) {
     text(b"share");
     number(measure);
     share(shares::share_of_l1(measure, l1));
-    share(shares::share_of_l2(measure, l1, l2, shares::margin()));
+    share(shares::share_of_l2(measure, l1, l2, MARGIN));
     end_line();
 }
 
@@ -145,7 +148,7 @@ fn end_behind(rear: u32) {
     let l2 = second_train();
     text(b"behind");
     number(rear);
-    match shares::share_of_l2(2, l1, l2, shares::margin()) {
+    match shares::share_of_l2(2, l1, l2, MARGIN) {
         Share::Nothing => text(b" nothing"),
         Share::NoPosition => text(b" no-position"),
         Share::Order(l) => place(l2.with_order(Ticket(1), l).end()),
@@ -161,7 +164,7 @@ fn ends() {
     place(override_on.end());
     place(override_on.with_order(Ticket(1), Limit::Bare).end());
     place(override_on.with_order(Ticket(1), Limit::To(8000)).end());
-    place(train.with_authority(Place::Nowhere).end());
+    place(train.with_authority(Location::Nowhere).end());
     end_line();
 }
 

@@ -11,8 +11,8 @@ use borrow.Author.Tests.{eq-eqb}
 use Rattle.transitions.specs.Names.{OV}
 use Rattle.trains.specs.declared.record.Limit.the-variants.{Bare}
 use Rattle.trains.specs.declared.record.Order.{Order}
-use Rattle.trains.specs.declared.record.Place.{Place}
-use Rattle.trains.specs.declared.record.Place.the-variants.{Nowhere, At}
+use Rattle.trains.specs.declared.record.Location.{Location}
+use Rattle.trains.specs.declared.record.Location.the-variants.{Nowhere, At}
 use Rattle.trains.specs.declared.record.Train.{Train}
 use Rattle.trains.specs.Authority.{nearer, nearest, limitStop, orderStop, orderStops, dangerStop, endWith, endFrom, endOf}
 use Rattle.trains.specs.Kinds.{sameTicket}
@@ -44,19 +44,19 @@ unfolding endWith
 granted-end t x e = ap (endWith t) e
 
 -- the end is not beyond what is granted
-pub not-beyond-granted : (end : ℕ) (ps : List Place) → nearest end ps ≤ end
+pub not-beyond-granted : (end : ℕ) (ps : List Location) → nearest end ps ≤ end
 unfolding nearest nearer
 not-beyond-granted end [] = omega arith
 not-beyond-granted end (Nowhere ∷ ps) = not-beyond-granted end ps
 not-beyond-granted end (At x ∷ ps) = omega (arith, not-beyond-granted (min end x) ps)
 
-nearer-stop : (end x : ℕ) (p : Place) → At x ≡ p → nearer end p ≤ x
+nearer-stop : (end x : ℕ) (p : Location) → At x ≡ p → nearer end p ≤ x
 unfolding nearer
 nearer-stop end x Nowhere e = let z : _≡_ {A = ℕ} 0 1 = cc in absurd (omega arith)
 nearer-stop end x (At y) e = let z : x ≡ y = cc in omega arith
 
 -- nor beyond any stop
-pub none-nearer : (end x : ℕ) (ps : List Place) → List·Memᴰ (At x) ps → nearest end ps ≤ x
+pub none-nearer : (end x : ℕ) (ps : List Location) → List·Memᴰ (At x) ps → nearest end ps ≤ x
 unfolding nearest
 none-nearer end x [] m = absurd (List·Memᴰ·not-nil m)
 none-nearer end x (p ∷ ps) m =
@@ -66,7 +66,7 @@ none-nearer end x (p ∷ ps) m =
     (List·Memᴰ·cases-cons m)
 
 -- what was the nearer of an end and a stop is one of the two
-nearer-one : (end e : ℕ) (p : Place) (ps : List Place) → (e ≡ nearer end p) ⊎ List·Memᴰ (At e) ps → (e ≡ end) ⊎ List·Memᴰ (At e) (p ∷ ps)
+nearer-one : (end e : ℕ) (p : Location) (ps : List Location) → (e ≡ nearer end p) ⊎ List·Memᴰ (At e) ps → (e ≡ end) ⊎ List·Memᴰ (At e) (p ∷ ps)
 unfolding nearer
 nearer-one end e p ps (inr m) = inr (List·Memᴰ·tail m)
 nearer-one end e Nowhere ps (inl q) = inl q
@@ -77,7 +77,7 @@ nearer-one end e (At x) ps (inl q) = of (decLt x end)
     of (no h) = inl (omega arith)
 
 -- the end is what is granted, or one of the stops
-pub one-of-those : (end : ℕ) (ps : List Place) → (nearest end ps ≡ end) ⊎ List·Memᴰ (At (nearest end ps)) ps
+pub one-of-those : (end : ℕ) (ps : List Location) → (nearest end ps ≡ end) ⊎ List·Memᴰ (At (nearest end ps)) ps
 unfolding nearest
 one-of-those end [] = inl refl
 one-of-those end (p ∷ ps) = nearer-one end (nearest (nearer end p) ps) p ps (one-of-those (nearer end p) ps)
@@ -94,7 +94,7 @@ bare-stop o e = go (sameTicket (o .other) noTicket)
     go false = ap limitStop e
 
 -- a stop that is nowhere does not count, wherever it stands
-pub nowhere-out : (end : ℕ) (ps qs : List Place) → nearest end (ps ++ (Nowhere ∷ qs)) ≡ nearest end (ps ++ qs)
+pub nowhere-out : (end : ℕ) (ps qs : List Location) → nearest end (ps ++ (Nowhere ∷ qs)) ≡ nearest end (ps ++ qs)
 unfolding nearest nearer
 nowhere-out end [] qs = refl
 nowhere-out end (p ∷ ps) qs = nowhere-out (nearer end p) ps qs

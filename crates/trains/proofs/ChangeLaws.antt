@@ -5,10 +5,10 @@ use mathlib.Core.Path.{_≡_, refl}
 use borrow.Author.Tests.{eq-eqb, ne-eqb}
 use Rattle.transitions.specs.Names.{OV}
 use Rattle.trains.specs.declared.record.Order.{Order}
-use Rattle.trains.specs.declared.record.Place.{Place}
+use Rattle.trains.specs.declared.record.Location.{Location}
 use Rattle.trains.specs.declared.record.Track.{Track}
 use Rattle.trains.specs.declared.record.Train.{Train}
-use Rattle.trains.specs.Changes.{changed, onTrack, reported, authorised, signalled, leftFor, withMode}
+use Rattle.trains.specs.Changes.{changed, onTrack, reported, authorised, endangered, leftFor, withMode}
 use Rattle.trains.specs.Orders.{withOrders}
 
 -- the same train in the same slots
@@ -22,21 +22,21 @@ pub record SameTrain (a b : Train) : Type 0 where
 pub same-train : (t : Train) (mode left : ℕ) (k : Track) (os : List Order) → SameTrain (changed t mode left k os) t
 same-train t mode left k os = record { loco = refl; ticket = refl; start = refl; slots = refl }
 
--- a position, an authority or a signal leaves the mode, the mode left and the orders
+-- a position, an authority or a danger location leaves the mode, the mode left and the orders
 pub track-leaves : (t : Train) (k : Track) → let u = onTrack t k in (u .mode ≡ t .mode) × (u .left ≡ t .left) × (u .orders ≡ t .orders)
 track-leaves t k = (refl, refl, refl)
 
--- a position leaves authority and signal
+-- a position leaves authority and danger location
 pub position-leaves : (k : Track) (front rear : ℕ) → let u = reported k front rear in (u .granted ≡ k .granted) × (u .danger ≡ k .danger)
 position-leaves k front rear = (refl, refl)
 
--- an authority leaves position and signal
-pub authority-leaves : (k : Track) (end : Place) → let u = authorised k end in (u .position ≡ k .position) × (u .danger ≡ k .danger)
+-- an authority leaves position and danger location
+pub authority-leaves : (k : Track) (end : Location) → let u = authorised k end in (u .position ≡ k .position) × (u .danger ≡ k .danger)
 authority-leaves k end = (refl, refl)
 
--- a signal leaves position and authority
-pub signal-leaves : (k : Track) (danger : Place) → let u = signalled k danger in (u .position ≡ k .position) × (u .granted ≡ k .granted)
-signal-leaves k danger = (refl, refl)
+-- a danger location leaves position and authority
+pub danger-leaves : (k : Track) (danger : Location) → let u = endangered k danger in (u .position ≡ k .position) × (u .granted ≡ k .granted)
+danger-leaves k danger = (refl, refl)
 
 -- an order put or cleared leaves the mode, the mode left and the track
 pub order-leaves : (t : Train) (os : List Order) → let u = withOrders t os in (u .mode ≡ t .mode) × (u .left ≡ t .left) × (u .track ≡ t .track)

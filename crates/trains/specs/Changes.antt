@@ -4,7 +4,7 @@ use mathlib.Core.List.{List}
 use Prim.Native.Nat.{ℕ}
 use lib.Dec.{eqb}
 use Rattle.transitions.specs.Names.{OV}
-use Rattle.trains.specs.declared.record.Place.{Place}
+use Rattle.trains.specs.declared.record.Location.{Location}
 use Rattle.trains.specs.declared.record.Position.the-variants.{Between}
 use Rattle.trains.specs.declared.record.Order.{Order}
 use Rattle.trains.specs.declared.record.Track.{Track}
@@ -32,24 +32,24 @@ abbrev pub reported : Track → ℕ → ℕ → Track
 reported k front rear = record { position = Between front rear; granted = k .granted; danger = k .danger }
 
 -- the track with an authority granted, or none
-abbrev pub authorised : Track → Place → Track
+abbrev pub authorised : Track → Location → Track
 authorised k end = record { position = k .position; granted = end; danger = k .danger }
 
--- the track with a signal at danger, or none
-abbrev pub signalled : Track → Place → Track
-signalled k danger = record { position = k .position; granted = k .granted; danger = danger }
+-- the track with a danger location, or none
+abbrev pub endangered : Track → Location → Track
+endangered k danger = record { position = k .position; granted = k .granted; danger = danger }
 
 -- a position reported
 abbrev pub withPosition : Train → ℕ → ℕ → Train
 withPosition t front rear = onTrack t (reported (t .track) front rear)
 
 -- an authority granted, or none
-abbrev pub withAuthority : Train → Place → Train
+abbrev pub withAuthority : Train → Location → Train
 withAuthority t end = onTrack t (authorised (t .track) end)
 
--- a signal at danger, or none
-abbrev pub withSignal : Train → Place → Train
-withSignal t danger = onTrack t (signalled (t .track) danger)
+-- a danger location, or none
+abbrev pub withDanger : Train → Location → Train
+withDanger t danger = onTrack t (endangered (t .track) danger)
 
 -- the mode left is kept exactly while the mode is OV
 unfoldable pub leftFor : ℕ → ℕ → ℕ

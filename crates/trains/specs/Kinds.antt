@@ -1,7 +1,7 @@
 -- The three kinds of number that name something in a session: when two are the same, and the range of each.
 use mathlib.Core.Bool.{Bool}
 use Prim.Native.Nat.{ℕ}
-use lib.Dec.{eqb}
+use lib.Dec.{eqb, ltb}
 use Rattle.trains.specs.declared.kinds.Loco.{Loco}
 use Rattle.trains.specs.declared.kinds.Ticket.{Ticket}
 use Rattle.trains.specs.declared.kinds.Slot.{Slot}
@@ -26,6 +26,10 @@ sameLoco a b = eqb (a .0) (b .0)
 -- two tickets are the same
 abbrev pub sameTicket : Ticket → Ticket → Bool
 sameTicket a b = eqb (a .0) (b .0)
+
+-- the first ticket is the higher one
+abbrev pub isAbove : Ticket → Ticket → Bool
+isAbove a b = ltb (b .0) (a .0)
 
 -- two slots are the same
 abbrev pub sameSlot : Slot → Slot → Bool

@@ -5,3 +5,4 @@ pub mod Changes
 pub mod Found
 pub mod Orders
 pub mod Authority
+pub mod Sought

@@ -2,8 +2,8 @@
 use mathlib.Core.Bool.{Bool, cond, _&&_, _||_}
 use Prim.Native.Nat.{ℕ}
 use lib.Dec.{eqb, leb}
-use Rattle.trains.specs.declared.record.Place.{Place}
-use Rattle.trains.specs.declared.record.Place.the-variants.{Nowhere, At}
+use Rattle.trains.specs.declared.record.Location.{Location}
+use Rattle.trains.specs.declared.record.Location.the-variants.{Nowhere, At}
 
 -- the highest location, in metres
 abbrev pub lastLocation : ℕ
@@ -13,7 +13,7 @@ lastLocation = 524287
 abbrev pub gridCount : ℕ
 gridCount = 4
 
--- what a boundary carries for no authority, or no signal at danger
+-- what a boundary carries for no authority, or no danger location
 abbrev pub none : ℕ
 none = 4294967295
 
@@ -34,9 +34,9 @@ abbrev pub isGrid : ℕ → Bool
 isGrid grid = oneTo gridCount grid
 
 -- what may stand for an authority's end or a danger location
-unfoldable pub isPlace : ℕ → Bool
-isPlace number = eqb number none || isLocation number
+unfoldable pub isNoneOrLocation : ℕ → Bool
+isNoneOrLocation number = eqb number none || isLocation number
 
 -- the place that a number at a boundary stands for
-unfoldable pub placeOf : ℕ → Place
-placeOf number = cond (eqb number none) Nowhere (At number)
+unfoldable pub locationFrom : ℕ → Location
+locationFrom number = cond (eqb number none) Nowhere (At number)

@@ -7,7 +7,7 @@ use Rattle.transitions.specs.Names.{SB}
 use Rattle.trains.specs.declared.kinds.Loco.{Loco}
 use Rattle.trains.specs.declared.kinds.Ticket.{Ticket}
 use Rattle.trains.specs.declared.kinds.Slot.{Slot}
-use Rattle.trains.specs.declared.record.Place.the-variants.{Nowhere}
+use Rattle.trains.specs.declared.record.Location.the-variants.{Nowhere}
 use Rattle.trains.specs.declared.record.Position.the-variants.{Unknown}
 use Rattle.trains.specs.declared.record.Limit.the-variants.{Bare}
 use Rattle.trains.specs.declared.record.Order.{Order}
@@ -35,11 +35,11 @@ orderCount = 4
 abbrev pub orderAt : List Order → ℕ → Order
 orderAt os i = getD os i noOrder
 
--- no position, authority or signal
+-- no position, authority or danger location
 abbrev pub noTrack : Track
 noTrack = record { position = Unknown; granted = Nowhere; danger = Nowhere }
 
--- a train in a mode that it was not overridden from, with no position, authority, signal or order
+-- a train in a mode that it was not overridden from, with no position, authority, danger location or order
 abbrev pub plainTrain : Loco → Ticket → Slot → ℕ → ℕ → Train
 plainTrain loco ticket start slots mode = record {
   loco = loco;

@@ -2,34 +2,34 @@
 use crate::kinds::Ticket;
 use crate::orders::ORDERS;
 use crate::record::Limit;
+use crate::record::Location;
 use crate::record::Order;
-use crate::record::Place;
 use crate::record::Train;
 ghost use mathlib.Core.Path.{_≡_};
 ghost use Rattle.trains.specs.Record.{orderCount};
 ghost use Rattle.trains.specs.Authority.{nearer, nearest, orderStop, orderStops, dangerStop, endFrom, endOf};
 
-fn nearer_of(end: u32, stop: Place) -> u32
+fn nearer_of(end: u32, stop: Location) -> u32
     ensures { λ r. ⌜ r ≡ nearer end stop ⌝ }
 {
     match stop {
-        Place::Nowhere => end,
-        Place::At(x) => if x < end { x } else { end },
+        Location::Nowhere => end,
+        Location::At(x) => if x < end { x } else { end },
     }
 }
 
 impl Order {
     // Where an order stops its train. A bare one does not, and a free place is no order.
-    fn stop(self) -> Place
+    fn stop(self) -> Location
         ensures { λ r. ⌜ r ≡ orderStop self ⌝ }
     {
         if self.other.is(Ticket(0)) {
-            return Place::Nowhere;
+            return Location::Nowhere;
         }
         let limit = self.limit;
         match limit {
-            Limit::Bare => Place::Nowhere,
-            Limit::To(x) => Place::At(x),
+            Limit::Bare => Location::Nowhere,
+            Limit::To(x) => Location::At(x),
         }
     }
 }
@@ -49,12 +49,12 @@ fn nearest_order(held: [Order; 4], from: u32) -> u32
 }
 
 impl Train {
-    // In Override the signal at danger does not count: the mode is looked at first.
-    fn danger_stop(self) -> Place
+    // In Override the danger location does not count: the mode is looked at first.
+    fn danger_stop(self) -> Location
         ensures { λ r. ⌜ r ≡ dangerStop self ⌝ }
     {
         if self.mode == transitions::names::OV {
-            return Place::Nowhere;
+            return Location::Nowhere;
         }
         let track = self.track;
         track.danger
@@ -69,14 +69,14 @@ impl Train {
     }
 
     // The effective end: none while no authority is granted.
-    pub fn end(self) -> Place
+    pub fn end(self) -> Location
         ensures { λ r. ⌜ r ≡ endOf self ⌝ }
     {
         let track = self.track;
         let granted = track.granted;
         match granted {
-            Place::Nowhere => Place::Nowhere,
-            Place::At(x) => Place::At(self.end_from(x)),
+            Location::Nowhere => Location::Nowhere,
+            Location::At(x) => Location::At(self.end_from(x)),
         }
     }
 }

@@ -1,10 +1,10 @@
 // Changes of a train record: each takes the record and hands the changed record back.
-use crate::record::Place;
+use crate::record::Location;
 use crate::record::Position;
 use crate::record::Track;
 use crate::record::Train;
 ghost use mathlib.Core.Path.{_≡_};
-ghost use Rattle.trains.specs.Changes.{reported, authorised, signalled, withPosition, withAuthority, withSignal, withMode};
+ghost use Rattle.trains.specs.Changes.{reported, authorised, endangered, withPosition, withAuthority, withDanger, withMode};
 
 impl Track {
     fn reported(self, front: u32, rear: u32) -> Track
@@ -19,7 +19,7 @@ impl Track {
         }
     }
 
-    fn authorised(self, end: Place) -> Track
+    fn authorised(self, end: Location) -> Track
         ensures { λ r. ⌜ r ≡ authorised self end ⌝ }
     {
         let position = self.position;
@@ -31,8 +31,8 @@ impl Track {
         }
     }
 
-    fn signalled(self, danger: Place) -> Track
-        ensures { λ r. ⌜ r ≡ signalled self danger ⌝ }
+    fn endangered(self, danger: Location) -> Track
+        ensures { λ r. ⌜ r ≡ endangered self danger ⌝ }
     {
         let position = self.position;
         let granted = self.granted;
@@ -53,7 +53,7 @@ impl Train {
         self
     }
 
-    pub fn with_authority(mut self, end: Place) -> Train
+    pub fn with_authority(mut self, end: Location) -> Train
         ensures { λ r. ⌜ r ≡ withAuthority self end ⌝ }
     {
         let track = self.track;
@@ -61,11 +61,11 @@ impl Train {
         self
     }
 
-    pub fn with_signal(mut self, danger: Place) -> Train
-        ensures { λ r. ⌜ r ≡ withSignal self danger ⌝ }
+    pub fn with_danger(mut self, danger: Location) -> Train
+        ensures { λ r. ⌜ r ≡ withDanger self danger ⌝ }
     {
         let track = self.track;
-        self.track = track.signalled(danger);
+        self.track = track.endangered(danger);
         self
     }
 

@@ -1,8 +1,8 @@
-// The three kinds of number that name something in a session. Each is compared by its own `is` alone, so that a loco number
-// or a slot can't reach a ticket comparison, and each knows its range.
+// The three kinds of number that name something in a session. Each is compared by its own `is`, tickets by `is_above` too, so that a loco
+// number or a slot can't reach a ticket comparison, and each knows its range.
 use crate::ranges;
 ghost use mathlib.Core.Path.{_≡_};
-ghost use Rattle.trains.specs.Kinds.{sameLoco, sameTicket, sameSlot, locoInRange, ticketInRange, slotInRange};
+ghost use Rattle.trains.specs.Kinds.{sameLoco, sameTicket, isAbove, sameSlot, locoInRange, ticketInRange, slotInRange};
 
 pub const LAST_LOCO: u32 = 131070;
 
@@ -35,6 +35,13 @@ impl Ticket {
         ensures { λ r. ⌜ r ≡ sameTicket self other ⌝ }
     {
         self.0 == other.0
+    }
+
+    // Is this the higher ticket?
+    pub fn is_above(self, other: Ticket) -> bool
+        ensures { λ r. ⌜ r ≡ isAbove self other ⌝ }
+    {
+        self.0 > other.0
     }
 
     pub fn in_range(self) -> bool

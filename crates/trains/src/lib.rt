@@ -6,3 +6,4 @@ pub mod kinds;
 pub mod orders;
 pub mod ranges;
 pub mod record;
+pub mod sought;

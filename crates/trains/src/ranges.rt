@@ -1,12 +1,12 @@
 // The range rules that operations ask for: a location, a position, a grid; and the number that stands for no location.
-use crate::record::Place;
+use crate::record::Location;
 ghost use mathlib.Core.Path.{_≡_};
-ghost use Rattle.trains.specs.Ranges.{oneTo, isLocation, isPosition, isGrid, isPlace, placeOf};
+ghost use Rattle.trains.specs.Ranges.{oneTo, isLocation, isPosition, isGrid, isNoneOrLocation, locationFrom};
 
 pub const LAST_LOCATION: u32 = 524287;
 
 pub const GRIDS: u32 = 4;
-// What a boundary carries where there is no authority, or no signal at danger.
+// What a boundary carries where there is no authority, or no danger location.
 pub const NONE: u32 = 4294967295;
 
 pub fn is_one_to(last: u32, n: u32) -> bool
@@ -35,18 +35,18 @@ pub fn is_grid(grid: u32) -> bool
 }
 
 // May the number stand for an authority's end or a danger location?
-pub fn is_place(number: u32) -> bool
-    ensures { λ r. ⌜ r ≡ isPlace number ⌝ }
+pub fn is_none_or_location(number: u32) -> bool
+    ensures { λ r. ⌜ r ≡ isNoneOrLocation number ⌝ }
 {
     number == NONE || is_location(number)
 }
 
-pub fn place_of(number: u32) -> Place
-    ensures { λ r. ⌜ r ≡ placeOf number ⌝ }
+pub fn location_from(number: u32) -> Location
+    ensures { λ r. ⌜ r ≡ locationFrom number ⌝ }
 {
     if number == NONE {
-        Place::Nowhere
+        Location::Nowhere
     } else {
-        Place::At(number)
+        Location::At(number)
     }
 }

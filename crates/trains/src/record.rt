@@ -6,7 +6,7 @@ ghost use mathlib.Core.Path.{_≡_};
 ghost use Rattle.trains.specs.Record.{noOrder, noTrack, plainTrain, blankTrain, freshTrain, isEmpty};
 
 // A location that may be missing.
-pub enum Place {
+pub enum Location {
     Nowhere,
     At(u32),
 }
@@ -29,11 +29,11 @@ pub struct Order {
     pub limit: Limit,
 }
 
-// Where a train is, how far it may go, and the signal at danger ahead of it.
+// Where a train is, how far it may go, and the danger location ahead of it.
 pub struct Track {
     pub position: Position,
-    pub granted: Place,
-    pub danger: Place,
+    pub granted: Location,
+    pub danger: Location,
 }
 
 // `left` is the mode left for Override, and 0 in any other mode. An empty register row has loco 0.
@@ -60,14 +60,14 @@ impl Order {
 }
 
 impl Track {
-    // No position, authority or signal.
+    // No position, authority or danger location.
     pub fn none() -> Track
         ensures { λ r. ⌜ r ≡ noTrack ⌝ }
     {
         Track {
             position: Position::Unknown,
-            granted: Place::Nowhere,
-            danger: Place::Nowhere,
+            granted: Location::Nowhere,
+            danger: Location::Nowhere,
         }
     }
 }

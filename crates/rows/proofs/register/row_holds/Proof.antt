@@ -4,8 +4,9 @@ use Rattle.trains.specs.declared.kinds.Loco.{Loco}
 use Rattle.trains.specs.declared.record.Train.{Train}
 use Rattle.trains.specs.Kinds.{sameLoco}
 use Rattle.trains.specs.Record.{noLoco}
-use Rattle.rows.specs.declared.register.Sought.{Sought}
-use Rattle.rows.specs.Register.{rowOf, holdsLoco, isSought}
+use Rattle.trains.specs.declared.sought.Sought.{Sought}
+use Rattle.trains.specs.Sought.{holdsLoco, isSought}
+use Rattle.rows.specs.Register.{rowOf}
 use borrow.Author.Needs.{needs}
 use Rattle.rows.proofs.register.row_holds.Statement.{statement}
 use Rattle.rows.proofs.register.row_holds.Tie as tie
@@ -23,7 +24,7 @@ returns-2 c =
     let a = c .before .before .before .before .before .before .args in
     let row : Train = rowOf (a .register .now) (a .at) (a .i) in
     let given = c .before .before .before .sought2 .given .1 in
-    c .holds-loco .ensures
+    c .holds .ensures
     ∙ ap (λ (x : Loco). holdsLoco x (c .before .before .before .sought2 .given .0 .0)) (c .before .loco-of .ensures)
     ∙ sym (ap (λ (x : Sought). isSought x row) given)
 

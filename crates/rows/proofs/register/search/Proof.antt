@@ -3,7 +3,8 @@ use mathlib.Core.Path.{_≡_, refl, sym, _∙_}
 use Prim.Native.Nat.{_≤_, _-_}
 use Rattle.trains.specs.Found.{first}
 use Rattle.trains.proofs.FoundLaws.{first-hit, first-miss, first-end}
-use Rattle.rows.specs.Register.{rowCount, soughtAt, foundIn}
+use Rattle.trains.specs.Sought.{rowCount}
+use Rattle.rows.specs.Register.{soughtAt, foundIn}
 use borrow.Author.Needs.{needs}
 use Rattle.rows.proofs.register.search.Statement.{statement}
 use Rattle.rows.proofs.register.search.Tie as tie

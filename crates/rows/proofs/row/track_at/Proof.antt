@@ -3,7 +3,7 @@ use mathlib.Core.Path.{_≡_, _∙_}
 use Prim.Native.Nat.{ℕ, _+_, _*_}
 use native.Mathlib.Omega.{arith}
 use Rattle.numbers.specs.Rows.{unpack}
-use Rattle.rows.specs.Parts.{bits, placeSizes, placeOf, positionBy}
+use Rattle.rows.specs.Parts.{bits, locationSizes, locationOf, positionBy}
 use Rattle.rows.proofs.Bytewise.{at-bit}
 use borrow.Author.Needs.{needs}
 use Rattle.rows.proofs.row.track_at.Statement.{statement}
@@ -20,8 +20,8 @@ returns c =
     let d : 8 * (a .i + 14) ≡ b + 8 + 32 + 32 + 8 + 32 = omega arith in
     λ k. record {
       position = (c .before .before .position-by .ensures ∙ (λ j. positionBy (c .before .before .before .before .before .byte-at .ensures j) (front j) (rear j))) k;
-      granted = (c .before .place-at .ensures ∙ (λ j. placeOf (unpack (a .s .now) (g j) (bits placeSizes)))) k;
-      danger = (c .place-at2 .ensures ∙ (λ j. placeOf (unpack (a .s .now) (d j) (bits placeSizes)))) k;
+      granted = (c .before .location-at .ensures ∙ (λ j. locationOf (unpack (a .s .now) (g j) (bits locationSizes)))) k;
+      danger = (c .location-at2 .ensures ∙ (λ j. locationOf (unpack (a .s .now) (d j) (bits locationSizes)))) k;
     }
 
 pub track-at-spec : {M : Type 1} → statement M

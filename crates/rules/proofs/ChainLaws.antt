@@ -1,0 +1,49 @@
+-- Laws of a chain of checks: the two ways that each can go, and what a chain without a ground says of its checks.
+use mathlib.Core.Path.{_≡_, refl, sym, ap, _∙_}
+use mathlib.Core.Bool.{Bool, true, false, true≢false, false≢true, not, cond, _||_}
+use Prim.Native.Nat.{ℕ, suc}
+use native.Mathlib.Omega.{arith}
+use Rattle.rules.specs.Ruling.{when, unless}
+
+-- a check that gives its ground, and one that passes on
+pub stops : (test : Bool) (ground next : ℕ) → test ≡ true → ground ≡ when test ground next
+unfolding when
+stops test ground next e = sym (λ i. cond (e i) ground next)
+
+pub goes-on : (test : Bool) (ground next : ℕ) → test ≡ false → next ≡ when test ground next
+unfolding when
+goes-on test ground next e = sym (λ i. cond (e i) ground next)
+
+-- the same of a check that code makes by `!f()`, where f's result is the test
+pub stops-unless : (r test : Bool) (ground next : ℕ) → r ≡ test → not r ≡ true → ground ≡ unless test ground next
+unfolding unless
+stops-unless true test ground next e t = absurd (false≢true t)
+stops-unless false test ground next e t = λ i. cond (e i) next ground
+
+pub goes-on-unless : (r test : Bool) (ground next : ℕ) → r ≡ test → not r ≡ false → next ≡ unless test ground next
+unfolding unless
+goes-on-unless true test ground next e t = λ i. cond (e i) next ground
+goes-on-unless false test ground next e t = absurd (true≢false t)
+
+-- a chain that gives no ground has passed its first check, and gives none after it
+pub passed : (test : Bool) (ground next : ℕ) → when test (suc ground) next ≡ 0 → (test ≡ false) × (next ≡ 0)
+unfolding when
+passed true ground next e = absurd (omega arith)
+passed false ground next e = (refl, e)
+
+pub passed-unless : (test : Bool) (ground next : ℕ) → unless test (suc ground) next ≡ 0 → (test ≡ true) × (next ≡ 0)
+unfolding unless
+passed-unless true ground next e = (refl, e)
+passed-unless false ground next e = absurd (omega arith)
+
+-- a test of two parts: the first holds, or the second decides
+pub either-first : (a b : Bool) → a ≡ true → (a || b) ≡ true
+either-first a b e = ap (λ (x : Bool). x || b) e
+
+pub either-next : (a b r : Bool) → a ≡ false → r ≡ b → r ≡ (a || b)
+either-next a b r e f = f ∙ sym (ap (λ (x : Bool). x || b) e)
+
+-- and neither holds where the two do not
+pub neither : (a b : Bool) → (a || b) ≡ false → (a ≡ false) × (b ≡ false)
+neither true b e = absurd (true≢false e)
+neither false b e = (refl, e)

@@ -1,0 +1,17 @@
+-- `rules::deeds::Changed::given` meets its contract.
+use Rattle.rules.specs.Deeds.{endAnswer, changedIf, changedWith}
+use mathlib.Core.Path.{_∙_, ap}
+use borrow.Author.Needs.{needs}
+use Rattle.rules.proofs.deeds.Changed.given.Statement.{statement}
+use Rattle.rules.proofs.deeds.Changed.given.Tie as tie
+
+returns : tie.Need-returns
+unfolding changedIf
+returns c = simp (c .before .before .if1 .taken, c .end-answer .ensures, c .before .end .ensures)
+
+returns-2 : tie.Need-returns-2
+unfolding changedIf
+returns-2 c = simp (c .before .if1 .left, c .refused .ensures)
+
+pub given-spec : {M : Type 1} → statement M
+given-spec = tie.close (tie.spec (λ c κs. search needs) (λ c κs. search needs) (λ c κs. search needs) returns returns-2)

@@ -1,0 +1,67 @@
+-- What an accepted operation does to the view: a run of slots side by side marked in the book, one row changed, and for an SOS a second one.
+use mathlib.Core.Bool.{Bool, true, false, cond}
+use mathlib.Core.List.{List}
+use Prim.Native.Nat.{ℕ, zero, suc, _-_}
+use lib.ListN.{set}
+use Rattle.trains.specs.Kinds.{lastSlot}
+use Rattle.trains.specs.Ranges.{oneTo}
+use Rattle.trains.specs.Record.{blankTrain}
+use Rattle.trains.specs.Sought.{rowCount}
+use Rattle.trains.specs.declared.kinds.Slot.{Slot}
+use Rattle.trains.specs.declared.record.Train.{Train}
+use Rattle.rules.specs.declared.effect.Change.{Change}
+use Rattle.rules.specs.declared.effect.Effect.{Effect}
+use Rattle.rules.specs.View.{View}
+
+-- how a slot is marked: 1 where it is taken, 0 where it is free
+unfoldable pub markFor : Bool → ℕ
+markFor taken = cond taken 1 0
+
+-- a slot of the book marked; a slot that is none of the book's marks nothing
+unfoldable pub slotMarked : List ℕ → ℕ → ℕ → List ℕ
+slotMarked book slot mark = cond (oneTo lastSlot slot) (set book (slot - 1) mark) book
+
+-- n slots from one on marked
+unfoldable pub marked : List ℕ → ℕ → ℕ → ℕ → List ℕ
+marked book slot zero mark = book
+marked book slot (suc n) mark = marked (slotMarked book slot mark) (suc slot) n mark
+
+-- a row changed
+abbrev pub change : ℕ → Train → Change
+change row t = record { row = row; train = t }
+
+-- the number of no row: a change there changes nothing
+abbrev pub noRow : ℕ
+noRow = rowCount
+
+-- no row changed
+abbrev pub noChange : Change
+noChange = change noRow blankTrain
+
+-- rows changed, and no slot marked
+abbrev pub rowsOnly : Change → Change → Effect
+rowsOnly changed also = record { start = record { 0 = 0 }; slots = 0; taken = false; changed = changed; also = also }
+
+-- nothing changed
+abbrev pub noEffect : Effect
+noEffect = rowsOnly noChange noChange
+
+-- one row changed, and no slot marked
+abbrev pub rowOnly : ℕ → Train → Effect
+rowOnly row t = rowsOnly (change row t) noChange
+
+-- one row changed, and a run of slots taken, or freed
+abbrev pub rowAndRun : ℕ → Train → Slot → ℕ → Bool → Effect
+rowAndRun row t start slots taken =
+    record { start = start; slots = slots; taken = taken; changed = change row t; also = noChange }
+
+-- the rows with one changed
+abbrev pub rowChanged : List Train → Change → List Train
+rowChanged rows c = set rows (c .row) (c .train)
+
+-- THE VIEW WITH AN EFFECT TAKEN IN
+unfoldable pub applied : View → Effect → View
+applied v e = record {
+  rows = rowChanged (rowChanged (v .rows) (e .changed)) (e .also);
+  book = marked (v .book) (e .start .0) (e .slots) (markFor (e .taken));
+}

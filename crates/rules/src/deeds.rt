@@ -1,0 +1,147 @@
+// Deeds, the operations on one train that is named. A deed takes the train and gives the answer and the train afterwards; it never sees a row.
+use crate::effect::Effect;
+use crate::named::Named;
+use crate::refusals;
+use crate::ruling::Answer;
+use crate::ruling::Ruling;
+use modes::Step;
+use trains::kinds::Ticket;
+use trains::ranges;
+use trains::record::Location;
+use trains::record::Train;
+ghost use mathlib.Core.Path.{_≡_};
+ghost use Rattle.rules.specs.Deeds.{meant, endAnswer, changedIf, stepTaken, stepped, done, deedGround, deedDone, endAsked};
+ghost use Rattle.rules.specs.Ruling.{ruled};
+
+// Flags are lent beside the deed, since an enum holds no slice.
+pub enum Deed {
+    Flags,
+    Position(u32, u32),
+    Authority(u32),
+    Danger(u32),
+    Clear(Ticket),
+}
+
+// The answer, and the train afterwards; the same train where the deed is refused.
+pub struct Changed {
+    pub answer: Answer,
+    pub train: Train,
+}
+
+// The answer for a train's end: 1 and the effective end, or zeros for none.
+pub fn end_answer(end: Location) -> Answer
+    ensures { λ r. ⌜ r ≡ endAnswer end ⌝ }
+{
+    match end {
+        Location::Nowhere => Answer::accepted(0, 0, 0),
+        Location::At(location) => Answer::accepted(1, location, 0),
+    }
+}
+
+impl Changed {
+    // Where the test holds, the train afterwards; else refused on a ground, and the train as it was.
+    fn given(test: bool, ground: u32, before: Train, after: Train) -> Changed
+        ensures { λ r. ⌜ r ≡ changedIf test ground before after ⌝ }
+    {
+        if test {
+            Changed {
+                answer: end_answer(after.end()),
+                train: after,
+            }
+        } else {
+            Changed {
+                answer: Answer::refused(ground),
+                train: before,
+            }
+        }
+    }
+}
+
+// The train after a mode step; a step that stays changes nothing.
+fn take_step(train: Train, step: Step) -> Train
+    ensures { λ r. ⌜ r ≡ stepTaken train step ⌝ }
+{
+    if step.priority == 0 {
+        return train;
+    }
+    train.with_mode(step.mode)
+}
+
+// A mode step, refused with the step's own number.
+fn step(train: Train, step: Step) -> Changed
+    ensures { λ r. ⌜ r ≡ stepped train step ⌝ }
+{
+    if step.answer != 0 {
+        return Changed {
+            answer: Answer::refused(step.answer),
+            train,
+        };
+    }
+    Changed {
+        answer: Answer::accepted(step.mode, step.priority, step.tie),
+        train: take_step(train, step),
+    }
+}
+
+// What each deed does to a train.
+fn act(deed: Deed, flags: &[u8], train: Train) -> Changed
+    ensures { λ r. ⌜ r ≡ done (meant deed (now (flags .entry))) train ⌝ }
+{
+    match deed {
+        Deed::Flags => step(train, modes::next_mode(train.mode, flags)),
+        Deed::Position(front, rear) => Changed::given(
+            ranges::is_position(front, rear),
+            refusals::BAD_POSITION,
+            train,
+            train.with_position(front, rear),
+        ),
+        Deed::Authority(end) => Changed::given(
+            ranges::is_none_or_location(end),
+            refusals::BAD_LOCATION,
+            train,
+            train.with_authority(ranges::location_from(end)),
+        ),
+        Deed::Danger(location) => Changed::given(
+            ranges::is_none_or_location(location),
+            refusals::BAD_LOCATION,
+            train,
+            train.with_danger(ranges::location_from(location)),
+        ),
+        Deed::Clear(other) => Changed::given(
+            train.has_order(other),
+            refusals::NO_SUCH_ORDER,
+            train,
+            train.order_cleared(other),
+        ),
+    }
+}
+
+// A deed on a train that is named: one row is changed.
+pub fn on(named: Named, deed: Deed, flags: &[u8], counter: Ticket) -> Ruling
+    ensures { λ r.
+        ⌜ r ≡ ruled counter (deedGround named (done (meant deed (now (flags .entry))) (named .train)))
+        (deedDone counter named (done (meant deed (now (flags .entry))) (named .train))) ⌝ }
+{
+    let train = named.train;
+    let changed = act(deed, flags, train);
+    let answer = changed.answer;
+    let after = changed.train;
+    let done = Ruling {
+        answer,
+        counter,
+        effect: Effect::row_only(named.row, after),
+    };
+    done.unless(counter, named.ground(answer.answer))
+}
+
+// The effective end of a named train, asked: nothing is changed.
+pub fn end_asked(named: Named) -> Answer
+    ensures { λ r. ⌜ r ≡ endAsked named ⌝ }
+{
+    let ground = named.ground(0);
+    if ground != 0 {
+        return Answer::refused(ground);
+    }
+    let train = named.train;
+    end_answer(train.end())
+}
