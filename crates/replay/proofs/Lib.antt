@@ -4,6 +4,8 @@ pub mod Views
 pub mod Tickets
 pub mod Entries
 pub mod Demand
+pub mod Always
+pub mod Later
 pub mod Fixed
 pub mod Played
 pub mod Numbered

@@ -1,5 +1,4 @@
 -- A ring implements the list log: to write at the head is to put an entry on top and keep `cap`, to move the head back by k is to take k entries off.
--- Assumes nothing.
 use Prim.Native.Nat.{ℕ, zero, suc, _+_, _-_, _≤_, _<_, min}
 use native.Mathlib.Nat.{le-of-suc-le-suc, not-suc-le-zero, suc-min-suc, suc-sub-suc, sub-zero, zero-min, min-zero}
 use native.Mathlib.Omega.{arith}
@@ -24,7 +23,7 @@ leb-split m n = go (leb m n) refl
     go false e = fails (nleb→lt m n (subst (λ (b : Bool). T (not b)) (sym e) tt)) e
 
 module _ (cap : ℕ) where
-  -- ── places ──
+  -- ── notches ──
 
   abbrev After : ℕ → Type 0
   After i = Split (leb (suc (suc i)) cap) (suc (suc i) ≤ cap) (cap < suc (suc i))
@@ -80,7 +79,7 @@ module _ (cap : ℕ) where
   pub backBy-zero : (i : ℕ) → backBy cap 0 i ≡ i
   backBy-zero i = rw leb·zero (sub-zero i)
 
-  -- one place back, and k more
+  -- one notch back, and k more
   pub backBy-suc : (k i : ℕ) → i < cap → suc k ≤ cap → backBy cap k (before cap i) ≡ backBy cap (suc k) i
   backBy-suc k zero l m = rw leb·suc-zero (go (leb-split k (cap - 1)))
     where
@@ -95,21 +94,21 @@ module _ (cap : ℕ) where
 
   -- ── reading ──
 
-  -- x is not among the n places before `at`
+  -- x is not among the n notches before `at`
   abbrev Far : ℕ → ℕ → ℕ → Type 0
   Far n x at = (n + x < at) ⊎ ((at ≤ x) × (n + x < at + cap))
 
   module _ {Entry : Type 0} where
-    pub length-readBack : (place : ℕ → Entry) (at n : ℕ) → length (readBack cap place at n) ≡ n
+    pub length-readBack : (entryAt : ℕ → Entry) (at n : ℕ) → length (readBack cap entryAt at n) ≡ n
     unfolding readBack
-    length-readBack place at zero = refl
-    length-readBack place at (suc n) = ap suc (length-readBack place (before cap at) n)
+    length-readBack entryAt at zero = refl
+    length-readBack entryAt at (suc n) = ap suc (length-readBack entryAt (before cap at) n)
 
-    take-readBack : (m : ℕ) (place : ℕ → Entry) (at n : ℕ) → take m (readBack cap place at n) ≡ readBack cap place at (min m n)
+    take-readBack : (m : ℕ) (entryAt : ℕ → Entry) (at n : ℕ) → take m (readBack cap entryAt at n) ≡ readBack cap entryAt at (min m n)
     unfolding readBack
-    take-readBack zero place at n = rw zero-min
-    take-readBack (suc m) place at zero = rw min-zero
-    take-readBack (suc m) place at (suc n) = rw suc-min-suc (ap (λ (l : List Entry). place (before cap at) ∷ l) (take-readBack m place (before cap at) n))
+    take-readBack zero entryAt at n = rw zero-min
+    take-readBack (suc m) entryAt at zero = rw min-zero
+    take-readBack (suc m) entryAt at (suc n) = rw suc-min-suc (ap (λ (l : List Entry). entryAt (before cap at) ∷ l) (take-readBack m entryAt (before cap at) n))
 
     untouched : (p q : ℕ → Entry) (x : ℕ) → ((i : ℕ) → i < cap → i ≢ x → q i ≡ p i) → (n at : ℕ) → at < cap → x < cap → Far n x at
         → readBack cap q at n ≡ readBack cap p at n
@@ -123,7 +122,7 @@ module _ (cap : ℕ) where
     untouched p q x same (suc n) (suc i) l m (inr f) =
         rw (same i (omega arith) (omega arith)) (ap (λ (r : List Entry). p i ∷ r) (untouched p q x same n i (omega arith) m (inr (omega arith))))
 
-    -- two readers that agree at every place read the same
+    -- two readers that agree at every notch read the same
     pub ring-same : (p q : ℕ → Entry) → ((i : ℕ) → i < cap → q i ≡ p i) → (n at : ℕ) → at < cap → readBack cap q at n ≡ readBack cap p at n
     unfolding readBack
     ring-same p q same zero at l = refl
@@ -137,7 +136,7 @@ module _ (cap : ℕ) where
         least : min k n ≡ k
         least = omega arith
 
-    -- PUSH: the entry e is written at the head h, and no other place changes; the head moves on by one, and one more entry is kept, up to cap
+    -- PUSH: the entry e is written at the head h, and no other notch changes; the head moves on by one, and one more entry is kept, up to cap
     pub ring-push : (p q : ℕ → Entry) (e : Entry) (h n : ℕ) → h < cap → n ≤ cap → q h ≡ e → ((i : ℕ) → i < cap → i ≢ h → q i ≡ p i)
         → readBack cap q (after cap h) (min cap (suc n)) ≡ take cap (e ∷ readBack cap p h n)
     unfolding readBack

@@ -1,23 +1,22 @@
 -- The three ways that a call of the machine can go.
--- Assumes nothing.
 use Prim.Native.Nat.{ℕ, _-_, _≤_}
 use mathlib.Core.Path.{_≡_, refl, sym, subst}
 use mathlib.Core.Bool.{Bool, true, false, cond}
 use lib.Dec.{T, leb, leb→le}
 use lib.ListN.{length}
-use Rattle.replay.specs.Rules.{Rules, Outcome, refuse, accept}
-use Rattle.replay.specs.Demand3.{Call, op, back, Answer, took, wentBack, refused, nothing, State, accepted}
-use Rattle.replay.specs.Demand3.{opAnswer, backAnswer, tooFarBack, ticketDue, judged}
+use Rattle.replay.specs.Rules.{Rules, Outcome, refuse, accept, ticketDue, judged}
+use Rattle.replay.specs.Demand3.{Call, op, back, Answer, took, wentBack, refused, nothing, State, cameTo}
+use Rattle.replay.specs.Demand3.{opAnswer, backAnswer}
 use Rattle.replay.specs.Machine.{acted, undone, step}
 
 -- a refused call came to nothing
-pub refused-nothing : {Op Reply : Type 0} (c : Call Op) (n : ℕ) → accepted {Reply = Reply} c (refused n) ≡ nothing
-unfolding accepted
+pub refused-nothing : {Op Reply : Type 0} (c : Call Op) (n : ℕ) → cameTo {Reply = Reply} c (refused n) ≡ nothing
+unfolding cameTo
 refused-nothing (op o) n = refl
 refused-nothing (back k) n = refl
 
 module _ (R : Rules) where
-  open Rules R using (View, Op, Reply, Entry, act)
+  open Rules R using (View, Op, Reply, Entry, tooFarBack)
 
   -- A call on the state s gives the state and the answer y: it is refused and the state stays, or the operation acts, or the session goes back.
   pub data Way (s : State View Entry) : Call Op → State View Entry × Answer Reply → Type 0 where

@@ -1,8 +1,7 @@
 -- DEMAND 3, over any rules: what holds of a session after any calls, whatever was stepped back. It is proved in proofs/Demand.antt.
---     accepted    what a call came to, by its answer         standing    the operations that were accepted and not stepped back
+--     cameTo      what a call came to, by its answer         standing    the operations that were accepted and not stepped back
 --     Replay      those played again, the oldest first       tickets     the tickets issued
 --     kept        the entries kept, by the entry rule        Demand3     the demand, of a session in bytes
--- Assumes nothing.
 use Prim.Native.Nat.{ℕ, suc, _-_, _≤_, _<_, min}
 use mathlib.Core.Path.{_≡_}
 use mathlib.Core.Logic.{_≢_}
@@ -10,15 +9,11 @@ use mathlib.Core.Bool.{cond}
 use mathlib.Core.List.{List, [], _∷_, _++_}
 use lib.Dec.{leb}
 use lib.ListN.{length, take, getD}
-use Rattle.replay.specs.Rules.{Rules, Outcome, refuse, accept, lastTicket}
+use Rattle.replay.specs.Rules.{Rules, Outcome, refuse, accept, justBelow, ticketDue, judged}
 
 -- the entries that are kept at most
 unfoldable pub depth : ℕ
 depth = 128
-
--- the refusal of a step back by more than the entries kept
-unfoldable pub tooFarBack : ℕ
-tooFarBack = 22
 
 -- ── calls and answers ──
 
@@ -39,10 +34,6 @@ unfoldable pub opAnswer : {View Reply : Type 0} → ℕ → Outcome View Reply �
 opAnswer t (refuse n) = refused n
 opAnswer t (accept r w) = took t r
 
--- the answer to a step back of k where n entries are kept: accepted exactly when k is at most n
-unfoldable pub backAnswer : {Reply : Type 0} → ℕ → ℕ → Answer Reply
-backAnswer k n = cond (leb k n) (wentBack (n - k)) (refused tooFarBack)
-
 -- A call with its answer.
 pub record Exchange (Op Reply : Type 0) : Type 0 where
   pub call : Call Op
@@ -55,34 +46,34 @@ pub record Done (Op Reply : Type 0) : Type 0 where
   pub reply : Reply
 
 -- What a call came to: an operation taken, which is one entry; a step back of k taken; or nothing.
-pub data Accepted (Op Reply : Type 0) : Type 0 where
-  entry : Done Op Reply → Accepted Op Reply
-  stepBack : ℕ → Accepted Op Reply
-  nothing : Accepted Op Reply
+pub data CameTo (Op Reply : Type 0) : Type 0 where
+  entry : Done Op Reply → CameTo Op Reply
+  stepBack : ℕ → CameTo Op Reply
+  nothing : CameTo Op Reply
 
 -- ── what is read off calls and answers alone ──
 
 module _ {Op Reply : Type 0} where
   -- what a call came to, by its answer: a refused call came to nothing (and no contract gives the two pairs of call and answer that do not fit)
-  unfoldable pub accepted : Call Op → Answer Reply → Accepted Op Reply
-  accepted (op o) (took t r) = entry (record { operation = o; ticket = t; reply = r })
-  accepted (op o) (wentBack n) = nothing
-  accepted (op o) (refused n) = nothing
-  accepted (back k) (took t r) = nothing
-  accepted (back k) (wentBack n) = stepBack k
-  accepted (back k) (refused n) = nothing
+  unfoldable pub cameTo : Call Op → Answer Reply → CameTo Op Reply
+  cameTo (op o) (took t r) = entry (record { operation = o; ticket = t; reply = r })
+  cameTo (op o) (wentBack n) = nothing
+  cameTo (op o) (refused n) = nothing
+  cameTo (back k) (took t r) = nothing
+  cameTo (back k) (wentBack n) = stepBack k
+  cameTo (back k) (refused n) = nothing
 
   -- what is read off calls and answers one after another, the first call first
-  unfoldable pub readOff : {A : Type 0} → (Accepted Op Reply → A → A) → A → List (Exchange Op Reply) → A
+  unfoldable pub readOff : {A : Type 0} → (CameTo Op Reply → A → A) → A → List (Exchange Op Reply) → A
   readOff f a [] = a
-  readOff f a (x ∷ xs) = readOff f (f (accepted (x .call) (x .answer)) a) xs
+  readOff f a (x ∷ xs) = readOff f (f (cameTo (x .call) (x .answer)) a) xs
 
   -- a list without its last k
   unfoldable pub withoutLast : ℕ → List (Done Op Reply) → List (Done Op Reply)
   withoutLast k d = take (length d - k) d
 
   -- an accepted operation joins those that stand, at the end; a step back of k takes the last k away
-  unfoldable pub stand : Accepted Op Reply → List (Done Op Reply) → List (Done Op Reply)
+  unfoldable pub stand : CameTo Op Reply → List (Done Op Reply) → List (Done Op Reply)
   stand (entry x) d = d ++ x ∷ []
   stand (stepBack k) d = withoutLast k d
   stand nothing d = d
@@ -92,7 +83,7 @@ module _ {Op Reply : Type 0} where
   standing = readOff stand []
 
   -- THE ENTRY RULE: one more at an accepted operation, up to `depth`; k fewer at a step back of k
-  unfoldable pub keep : Accepted Op Reply → ℕ → ℕ
+  unfoldable pub keep : CameTo Op Reply → ℕ → ℕ
   keep (entry x) n = min depth (suc n)
   keep (stepBack k) n = n - k
   keep nothing n = n
@@ -100,12 +91,6 @@ module _ {Op Reply : Type 0} where
   -- the entries kept, by the entry rule
   unfoldable pub kept : List (Exchange Op Reply) → ℕ
   kept = readOff keep 0
-
--- The tickets ts, issued one after another where the counter stood at c, leave it at d: each is above the counter before it, is not above the
--- last ticket, and is the counter after it.
-abbrev pub Issued : ℕ → List ℕ → ℕ → Type 0
-Issued c [] d = c ≡ d
-Issued c (t ∷ ts) d = (c < t) × (t ≤ lastTicket) × Issued t ts d
 
 -- ── sessions of some rules ──
 
@@ -116,22 +101,18 @@ pub record State (View Entry : Type 0) : Type 0 where
   pub log : List Entry
 
 module _ (R : Rules) where
-  open Rules R using (View, Op, Reply, Entry, grants, ticketFor, act)
+  open Rules R using (View, Op, Reply, Entry, grants, lastTicket, tooFarBack, act)
 
-  -- the ticket that an operation gets where the counter stands at c: 0, if it is no grant
-  unfoldable pub ticketDue : Op → ℕ → ℕ
-  ticketDue o c = cond (grants o) (ticketFor o c) 0
-
-  -- what the rules say of an operation where the counter stands at c
-  unfoldable pub judged : Op → ℕ → View → Outcome View Reply
-  judged o c v = act o (ticketDue o c) v
+  -- the answer to a step back of k where n entries are kept: accepted exactly when k is at most n
+  unfoldable pub backAnswer : ℕ → ℕ → Answer Reply
+  backAnswer k n = cond (leb k n) (wentBack (n - k)) (refused tooFarBack)
 
   -- calls of any kind with their answers, refused ones too, the first call first
   abbrev pub History : Type 0
   History = List (Exchange Op Reply)
 
   -- an accepted grant issues its ticket
-  unfoldable pub issue : Accepted Op Reply → List ℕ → List ℕ
+  unfoldable pub issue : CameTo Op Reply → List ℕ → List ℕ
   issue (entry x) ts = cond (grants (x .operation)) (ts ++ x .ticket ∷ []) ts
   issue (stepBack k) ts = ts
   issue nothing ts = ts
@@ -140,11 +121,17 @@ module _ (R : Rules) where
   unfoldable pub tickets : History → List ℕ
   tickets = readOff issue []
 
-  -- THE REPLAY: from the view v the operations lead to w, the oldest played first, each under the ticket that it got; and each is accepted again,
-  -- with the reply that it got
+  -- The tickets ts, issued one after another where the counter stood at c, leave it at d: each is above the counter before it, is not above the
+  -- last ticket, and is the counter after it.
+  abbrev pub Issued : ℕ → List ℕ → ℕ → Type 0
+  Issued c [] d = c ≡ d
+  Issued c (t ∷ ts) d = (c < t) × (t ≤ lastTicket) × Issued t ts d
+
+  -- THE REPLAY: from the view v the operations lead to w, the oldest played first, each under the ticket that it got, where the counter stands just
+  -- below that ticket; and each is accepted again, with the reply that it got
   abbrev pub Replay : View → List (Done Op Reply) → View → Type 0
   Replay v [] w = v ≡ w
-  Replay v (x ∷ later) w = (m : View) × (act (x .operation) (x .ticket) v ≡ accept (x .reply) m) × Replay m later w
+  Replay v (x ∷ later) w = (m : View) × (act (x .operation) (justBelow (x .ticket)) (x .ticket) v ≡ accept (x .reply) m) × Replay m later w
 
   -- A session that is kept in what a caller lends.
   pub record Session : Type 1 where
@@ -160,7 +147,7 @@ module _ (R : Rules) where
 -- ── the demand ──
 
 module _ {R : Rules} (S : Session R) where
-  open Rules R using (View, Op, Reply, Sound)
+  open Rules R using (View, Op, Reply, lastTicket, Sound)
   open Session S using (Bytes, stateIn, Ready, Did)
 
   -- the view in the bytes
@@ -192,20 +179,20 @@ module _ {R : Rules} (S : Session R) where
     -- a refused call leaves every byte as it was
     pub refusal-same : (m : ℕ) → a ≡ refused m → b′ ≡ b
     -- an operation is answered as the rules say
-    pub op-judged : (o : Op) → c ≡ op o → a ≡ opAnswer (ticketDue R o (counterIn b)) (judged R o (counterIn b) (viewIn b))
+    pub op-answered : (o : Op) → c ≡ op o → a ≡ opAnswer (ticketDue R o (counterIn b)) (judged R o (counterIn b) (viewIn b))
     -- a step back of k is accepted exactly when k is at most n
-    pub back-judged : (k : ℕ) → c ≡ back k → a ≡ backAnswer k n
+    pub back-answered : (k : ℕ) → c ≡ back k → a ≡ backAnswer R k n
     -- the counter never falls
     pub never-falls : counterIn b ≤ counterIn b′
     -- a ticket issued is above the counter before the call, and is the counter after it; where none is issued, the counter stays
-    pub ticket-new : Issued (counterIn b) (issue R (accepted c a) []) (counterIn b′)
+    pub ticket-new : Issued R (counterIn b) (issue R (cameTo c a) []) (counterIn b′)
 
   -- DEMAND 3: of bytes b, of calls and answers, and of the bytes b′ that they left.
   pub record Demand3 (b : Bytes) (h : History R) (b′ : Bytes) : Type 0 where
     -- the view is what the start gets from the operations that stand
     pub replayed : Replay R (viewIn b) (standing h) (viewIn b′)
     -- the tickets issued rise from the counter at the start to the counter now
-    pub tickets-rise : Issued (counterIn b) (tickets R h) (counterIn b′)
+    pub tickets-rise : Issued R (counterIn b) (tickets R h) (counterIn b′)
     -- so no ticket is issued twice, also where its grant was stepped back
     pub tickets-once : (i j : ℕ) → i < j → j < length (tickets R h) → getD (tickets R h) i 0 ≢ getD (tickets R h) j 0
     -- and none is above the last one

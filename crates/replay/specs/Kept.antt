@@ -1,5 +1,4 @@
 -- What a session that is kept in bytes has to show, so that demand 3 holds of it: its contracts do there what the machine does.
--- Assumes nothing.
 use Prim.Native.Nat.{ℕ}
 use mathlib.Core.Path.{_≡_}
 use Rattle.replay.specs.Rules.{Rules}

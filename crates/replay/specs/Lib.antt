@@ -3,4 +3,5 @@ pub mod Demand3
 pub mod Machine
 pub mod Kept
 pub mod Played
+pub mod Always
 pub mod Ring

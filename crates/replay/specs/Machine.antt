@@ -1,19 +1,14 @@
 -- The machine: what one call does to a session's view, counter and log, over any rules. A session in bytes shows that its calls do this (Kept.antt).
--- Assumes nothing.
 use Prim.Native.Nat.{ℕ}
 use mathlib.Core.Bool.{cond}
 use mathlib.Core.List.{List, [], _∷_}
 use lib.Dec.{leb}
 use lib.ListN.{length, take, drop}
-use Rattle.replay.specs.Rules.{Rules, Outcome, refuse, accept}
-use Rattle.replay.specs.Demand3.{Call, op, back, Answer, State, depth, opAnswer, backAnswer, ticketDue, judged}
+use Rattle.replay.specs.Rules.{Rules, Outcome, refuse, accept, ticketDue, judged, counterAfter}
+use Rattle.replay.specs.Demand3.{Call, op, back, Answer, State, depth, opAnswer, backAnswer}
 
 module _ (R : Rules) where
-  open Rules R using (View, Op, Reply, Entry, grants, ticketFor, save, undo)
-
-  -- the counter after an accepted operation: the ticket, if it is a grant
-  unfoldable pub counterAfter : Op → ℕ → ℕ
-  counterAfter o c = cond (grants o) (ticketFor o c) c
+  open Rules R using (View, Op, Reply, Entry, save, undo)
 
   -- an accepted operation gives the new view, and its entry goes on top of the log, of which the newest `depth` are kept; a refused one changes nothing
   unfoldable pub acted : Op → State View Entry → Outcome View Reply → State View Entry
@@ -21,7 +16,7 @@ module _ (R : Rules) where
   acted o s (accept r w) =
       record {
         view = w;
-        counter = counterAfter o (s .counter);
+        counter = counterAfter R o (s .counter);
         log = take depth (save o (ticketDue R o (s .counter)) (s .view) ∷ s .log);
       }
 
@@ -42,4 +37,4 @@ module _ (R : Rules) where
   -- ONE CALL: the state after it, and the answer. A step back by more entries than are kept changes nothing
   unfoldable pub step : State View Entry → Call Op → State View Entry × Answer Reply
   step s (op o) = (acted o s (judged R o (s .counter) (s .view)), opAnswer (ticketDue R o (s .counter)) (judged R o (s .counter) (s .view)))
-  step s (back k) = (cond (leb k (length (s .log))) (undone k s) s, backAnswer k (length (s .log)))
+  step s (back k) = (cond (leb k (length (s .log))) (undone k s) s, backAnswer R k (length (s .log)))

@@ -1,5 +1,4 @@
 -- The operations that stand, played as calls from the same start: what the law of proofs/Played.antt speaks of.
--- Assumes nothing.
 use Prim.Native.Nat.{ℕ}
 use mathlib.Core.Path.{_≡_}
 use mathlib.Core.Bool.{cond}

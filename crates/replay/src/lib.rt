@@ -3,5 +3,5 @@ mod ring;
 
 pub use ring::DEPTH;
 pub use ring::kept_after;
-pub use ring::place_after;
-pub use ring::place_before;
+pub use ring::notch_after;
+pub use ring::notch_before;

@@ -1,24 +1,24 @@
-// The places of a ring that keeps the newest DEPTH entries of a log, and the number of entries that it keeps.
+// The notches of a ring that keeps the newest DEPTH entries of a log, and the number of entries that it keeps.
 ghost use Prim.Native.Nat.{suc, min};
 ghost use mathlib.Core.Path.{_≡_};
 ghost use Rattle.replay.specs.Demand3.{depth};
 ghost use Rattle.replay.specs.Ring.{after, before};
 
-// The entries that are kept at most: as many places has the ring.
+// The entries that are kept at most: as many notches has the ring.
 pub const DEPTH: usize = 128;
 
-// The place that follows this one, round the ring.
-pub fn place_after(place: usize) -> usize
-    ensures { λ r. ⌜ r ≡ after depth place ⌝ }
+// The notch that follows this one, round the ring.
+pub fn notch_after(notch: usize) -> usize
+    ensures { λ r. ⌜ r ≡ after depth notch ⌝ }
 {
-    if place < DEPTH - 1 { place + 1 } else { 0 }
+    if notch < DEPTH - 1 { notch + 1 } else { 0 }
 }
 
-// The place before this one, round the ring.
-pub fn place_before(place: usize) -> usize
-    ensures { λ r. ⌜ r ≡ before depth place ⌝ }
+// The notch before this one, round the ring.
+pub fn notch_before(notch: usize) -> usize
+    ensures { λ r. ⌜ r ≡ before depth notch ⌝ }
 {
-    if place == 0 { DEPTH - 1 } else { place - 1 }
+    if notch == 0 { DEPTH - 1 } else { notch - 1 }
 }
 
 // The entries kept after one more.
