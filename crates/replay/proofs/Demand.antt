@@ -112,6 +112,10 @@ module _ {R : Rules} (S : Session R) (L : Lawful R) (K : Kept S) where
               (keeps (stateIn b) c (step R (stateIn b) c) d ts (way R (stateIn b) c) (q .0 .held) (q .0 .issued) (q .1)),
         )
 
+  -- the bytes are ready after any calls
+  pub ready-after : (b b′ : Bytes) (h : History R) → Starts S b → Made S b h b′ → Ready b′
+  ready-after b b′ h start made = holds b start h b′ made .ready
+
   -- DEMAND 3: from any start, whatever the calls
   pub demand3 : (b b′ : Bytes) (h : History R) → Starts S b → Made S b h b′ → Demand3 S b h b′
   demand3 b b′ h start made =
