@@ -1,16 +1,16 @@
 -- A property of counter and view that lasts (specs/Always.antt) holds after any calls from a start that has it, step-backs included: the log leads back
 -- only to views that had it at a counter not above today's.
 use Prim.Native.Nat.{ℕ, zero, suc, _≤_}
-use mathlib.Core.Path.{_≡_, refl, sym, subst}
+use mathlib.Core.Path.{sym, subst}
 use mathlib.Core.List.{List, [], _∷_}
 use lib.ListN.{take, drop}
 use Rattle.replay.specs.Rules.{Rules, Lawful, ticketDue, counterAfter}
-use Rattle.replay.specs.Demand3.{Call, Answer, Done, State, depth, History, Session, cameTo, stand, issue, Issued, viewIn, counterIn, Starts, Made}
+use Rattle.replay.specs.Demand3.{Call, Answer, Done, State, depth, History, Session, cameTo, issue, Issued, viewIn, counterIn, Starts, Made}
 use Rattle.replay.specs.Machine.{acted, undoAll, undone}
 use Rattle.replay.specs.Kept.{Kept}
 use Rattle.replay.specs.Always.{Lasts}
 use Rattle.replay.proofs.Ways.{Way, stays, acts, goes}
-use Rattle.replay.proofs.Views.{HeldAt, held-sound}
+use Rattle.replay.proofs.Views.{held-sound}
 use Rattle.replay.proofs.Tickets.{issued-up, issued-fits, issued-way}
 use Rattle.replay.proofs.Demand.{each-way}
 
@@ -23,6 +23,10 @@ module _ (R : Rules) (P : ℕ → R .View → Type 0) where
   abbrev Along : ℕ → View → List Entry → Type 0
   Along c v [] = P c v
   Along c v (e ∷ es) = P c v × Along c (undo e v) es
+
+  -- the same of a state
+  abbrev AlongAt : State View Entry → Type 0
+  AlongAt s = Along (s .counter) (s .view) (s .log)
 
   along-now : (c : ℕ) (v : View) (es : List Entry) → Along c v es → P c v
   along-now c v [] a = a
@@ -48,11 +52,8 @@ module _ (R : Rules) (P : ℕ → R .View → Type 0) where
 module _ (R : Rules) (L : Lawful R) (P : ℕ → R .View → Type 0) (lasts : Lasts R P) where
   open Rules R using (View, Op, Reply, Entry, lastTicket, save, Sound)
 
-  abbrev AlongAt : State View Entry → Type 0
-  AlongAt s = Along R P (s .counter) (s .view) (s .log)
-
-  along-way : (s : State View Entry) (c : Call Op) (y : State View Entry × Answer Reply) → Way R s c y → Sound (s .view) → s .counter ≤ lastTicket → AlongAt s
-      → AlongAt (y .0)
+  along-way : (s : State View Entry) (c : Call Op) (y : State View Entry × Answer Reply) → Way R s c y → Sound (s .view) → s .counter ≤ lastTicket → AlongAt R P s
+      → AlongAt R P (y .0)
   unfolding acted undone
   along-way s c y (stays n) sound fits a = a
   along-way s c y (acts o r w e) sound fits a =
@@ -89,7 +90,7 @@ module _ {R : Rules} (S : Session R) (L : Lawful R) (K : Kept S) where
       → P (counterIn S b′) (viewIn S b′)
   always P lasts b b′ h start p made =
       along-now R P (counterIn S b′) (viewIn S b′) (stateIn b′ .log)
-      (each-way S L K b start (λ (d : List (Done Op Reply)) (ts : List ℕ) (s : State View Entry). AlongAt R L P lasts s)
+      (each-way S L K b start (λ (d : List (Done Op Reply)) (ts : List ℕ) (s : State View Entry). AlongAt R P s)
       (λ s c y d ts way held issued a.
       along-way R L P lasts s c y way (held-sound R L (viewIn S b) (start .sound) d (s .view) (s .log) held)
       (issued-fits R (counterIn S b) (s .counter) ts (start .fits) issued) a)

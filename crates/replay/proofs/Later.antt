@@ -1,7 +1,7 @@
 -- A ticket is never issued again: where calls follow on calls, each ticket of the later ones is above each of the earlier ones, step-backs or not.
 use Prim.Native.Nat.{ℕ, _≤_, _<_}
 use native.Mathlib.Omega.{arith}
-use mathlib.Core.Path.{_≡_, refl, sym, ap, _∙_, subst}
+use mathlib.Core.Path.{_≡_, sym, ap, _∙_, subst}
 use mathlib.Core.List.{List, [], _∷_, _++_, append-assoc, append-nil}
 use lib.ListN.{length, getD}
 use Rattle.replay.specs.Rules.{Rules, Lawful}

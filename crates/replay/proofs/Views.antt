@@ -75,7 +75,7 @@ module _ (R : Rules) (L : Lawful R) where
   open Lawful L using (act-sound, undo-save, act-again)
 
   -- an operation that led on leads on when it is played again
-  pub led-again : (x : Done Op Reply) (u w : View) → Sound u → Led R x u w → act (x .operation) (justBelow (x .ticket)) (x .ticket) u ≡ accept (x .reply) w
+  led-again : (x : Done Op Reply) (u w : View) → Sound u → Led R x u w → act (x .operation) (justBelow (x .ticket)) (x .ticket) u ≡ accept (x .reply) w
   led-again x u w s l =
       subst (λ (t : ℕ). act (x .operation) (justBelow t) t u ≡ accept (x .reply) w) (sym (l .due)) (act-again (x .operation) (l .counter) u w (x .reply) s (l .accepts))
 
