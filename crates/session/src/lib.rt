@@ -1,4 +1,4 @@
-// A session in lent bytes: the nine operations and `start`, and the questions that only read.
+// A session in lent bytes: the operations, step-back and `start`, and the questions that only read.
 pub mod operations;
 pub mod questions;
-pub mod refusals;
+pub mod settings;

@@ -1,7 +1,6 @@
 // Questions that only read a session: for displays and tests.
-use crate::refusals;
-use rules::judging;
-use rulings::ruling::Answer;
+use rules::refusals;
+use rules::ruling::Answer;
 use store::layout;
 use store::view;
 use trains::kinds::Loco;
@@ -9,7 +8,8 @@ use trains::kinds::Slot;
 use trains::kinds::Ticket;
 use trains::record::Train;
 ghost use mathlib.Core.Path.{_≡_};
-ghost use Rattle.store.specs.View.{viewOf, bookOf, rowIn, counterOf, keptOf, isTaken};
+ghost use Rattle.rules.specs.View.{rowIn, isTaken};
+ghost use Rattle.store.specs.View.{viewOf, bookOf, counterOf, keptOf};
 ghost use Rattle.session.specs.Answers.{endAnswerTo};
 
 // The train in a row of the register, counted from 0. A row above 23 reads as blank.
@@ -23,14 +23,14 @@ pub fn train(session: &[u8], row: u32) -> Train
 pub fn end(session: &[u8], loco: Loco, ticket: Ticket) -> Answer
     ensures { λ r. ⌜ r ≡ endAnswerTo (now (session .entry)) loco ticket ⌝ }
 {
-    if session.len() != layout::SESSION {
+    if !layout::is_session(session) {
         return Answer::refused(refusals::WRONG_LENGTH);
     }
     judging::end(session, loco, ticket)
 }
 
 // The ticket counter.
-pub fn counter(session: &[u8]) -> u32
+pub fn counter(session: &[u8]) -> Ticket
     ensures { λ r. ⌜ r ≡ counterOf (now (session .entry)) ⌝ }
 {
     view::counter(session)
@@ -45,7 +45,7 @@ pub fn kept(session: &[u8]) -> u32
 
 // Is the slot taken? One outside 1 to 44 is not.
 pub fn is_taken(session: &[u8], slot: Slot) -> bool
-    ensures { λ r. ⌜ r ≡ isTaken (bookOf (now (session .entry))) (slot .0) ⌝ }
+    ensures { λ r. ⌜ r ≡ isTaken (bookOf (now (session .entry))) slot ⌝ }
 {
     view::is_taken(session, slot)
 }

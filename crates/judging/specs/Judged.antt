@@ -1,0 +1,21 @@
+-- What the rules say of the lent bytes: of the counter and the view that they stand for, whatever they are.
+use mathlib.Core.List.{List}
+use Prim.Native.Nat.{ℕ}
+use Rattle.trains.specs.declared.kinds.Loco.{Loco}
+use Rattle.trains.specs.declared.kinds.Ticket.{Ticket}
+use Rattle.rules.specs.Deeds.{endAsked}
+use Rattle.rules.specs.Named.{namedIn}
+use Rattle.rules.specs.Registering.{ticketFor}
+use Rattle.rules.specs.Rules.{Op, rule}
+use Rattle.rules.specs.declared.ruling.Answer.{Answer}
+use Rattle.rules.specs.declared.ruling.Ruling.{Ruling}
+use Rattle.rules.specs.declared.settings.Settings.{Settings}
+use Rattle.store.specs.View.{viewOf, counterOf}
+
+-- what the rules say of an operation on the lent bytes; a request would take the next ticket
+unfoldable pub judged : Settings → List ℕ → Op → Ruling
+judged s bs o = rule s o (counterOf bs) (ticketFor (counterOf bs)) (viewOf bs)
+
+-- the effective end of a named train, as an answer
+unfoldable pub endJudged : List ℕ → Loco → Ticket → Answer
+endJudged bs loco ticket = endAsked (namedIn loco ticket (viewOf bs))

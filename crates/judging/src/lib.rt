@@ -1,0 +1,69 @@
+// The rules asked of the lent bytes of a session, which are only read: each operation judged.
+mod named;
+mod requesting;
+mod slots;
+
+use rules::deeds;
+use rules::deeds::Deed;
+use rules::raising;
+use rules::registering;
+use rules::ruling::Answer;
+use rules::ruling::Ruling;
+use rules::settings::Settings;
+use store::view;
+use trains::kinds::Loco;
+use trains::kinds::Ticket;
+ghost use mathlib.Core.Path.{_≡_};
+ghost use Rattle.rules.specs.Deeds.{meant};
+ghost use Rattle.rules.specs.Rules.{Op};
+ghost use Rattle.judging.specs.Judged.{judged, endJudged};
+
+pub fn request(s: &[u8], settings: Settings, loco: Loco, bytes: u32) -> Ruling
+    ensures { λ r. ⌜ r ≡ judged settings (now (s .entry)) (Op.request loco bytes) ⌝ }
+{
+    requesting::request(s, settings.carries, loco, bytes)
+}
+
+pub fn release(s: &[u8], settings: Settings, loco: Loco, ticket: Ticket) -> Ruling
+    ensures { λ r. ⌜ r ≡ judged settings (now (s .entry)) (Op.release loco ticket) ⌝ }
+{
+    registering::release(named::find(s, loco, ticket), view::counter(s))
+}
+
+// A deed on one train; the flags are looked at where the deed is flags.
+pub fn on(
+    s: &[u8],
+    settings: Settings,
+    loco: Loco,
+    ticket: Ticket,
+    deed: Deed,
+    flags: &[u8],
+) -> Ruling
+    ensures { λ r. ⌜ r ≡ judged settings (now (s .entry)) (Op.on loco ticket (meant deed (now (flags .entry)))) ⌝ }
+{
+    deeds::on(named::find(s, loco, ticket), deed, flags, view::counter(s))
+}
+
+// SOS between L2, named first, and L1.
+pub fn sos(
+    s: &[u8],
+    settings: Settings,
+    loco2: Loco,
+    ticket2: Ticket,
+    loco1: Loco,
+    ticket1: Ticket,
+    grid: u32,
+) -> Ruling
+    ensures { λ r. ⌜ r ≡ judged settings (now (s .entry)) (Op.sos loco2 ticket2 loco1 ticket1 grid) ⌝ }
+{
+    let l2 = named::find(s, loco2, ticket2);
+    let l1 = named::find(s, loco1, ticket1);
+    raising::raise(settings.margin, grid, view::counter(s), l2, l1)
+}
+
+// The effective end of a named train, which changes nothing.
+pub fn end(s: &[u8], loco: Loco, ticket: Ticket) -> Answer
+    ensures { λ r. ⌜ r ≡ endJudged (now (s .entry)) loco ticket ⌝ }
+{
+    deeds::end_asked(named::find(s, loco, ticket))
+}

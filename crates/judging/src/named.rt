@@ -1,0 +1,23 @@
+// The train that a loco and a ticket name together, in the lent bytes.
+use rules::named::Named;
+use store::view;
+use trains::found::Found;
+use trains::kinds::Loco;
+use trains::kinds::Ticket;
+ghost use mathlib.Core.Path.{_≡_};
+ghost use Rattle.rules.specs.Named.{namedIn};
+ghost use Rattle.store.specs.View.{viewOf};
+
+pub(crate) fn find(s: &[u8], loco: Loco, ticket: Ticket) -> Named
+    ensures { λ r. ⌜ r ≡ namedIn loco ticket (viewOf (now (s .entry))) ⌝ }
+{
+    match view::find(s, loco, ticket) {
+        Found::Nothing => Named::nobody(loco),
+        Found::Index(row) => Named {
+            loco,
+            live: true,
+            row,
+            train: view::train(s, row),
+        },
+    }
+}
