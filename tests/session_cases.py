@@ -8,11 +8,14 @@
 The lines come from the independent model. Where document 01 itself says what a call answers, the call says so here, and the
 model's line is held to it; each refusal of the table must have been given.
 """
+import pathlib
 import random
+import re
 import subprocess
 import sys
 
-SESSION = 24704
+HEADER = pathlib.Path(__file__).resolve().parent.parent / "include" / "kavach_bench.h"
+SESSION = int(re.search(r"#define KB_SESSION_SIZE (\d+)", HEADER.read_text(encoding="ascii")).group(1))
 START, REQUEST, RELEASE, FLAGS, POSITION, AUTHORITY, DANGER, SOS, CLEAR, BACK, END, ROW, BOOK, TURNS = range(14)
 NONE = 0xFFFFFFFF
 MOST = 0xFFFFFFFF
@@ -20,8 +23,8 @@ REFUSALS = {*range(10, 24), 34}
 
 # Conditions that lead from SB, the mode of a new train.
 TO_SR, TO_LS, TO_FS, TO_OV, TO_OS, TO_PT = 60, 61, 62, 63, 64, 66
-# Conditions that lead from FS to TR and to OV, and from PT to OV.
-FS_TO_TR, FS_TO_OV, PT_TO_OV = 69, 71, 86
+# Conditions that lead from SR to OS, from FS to TR and to OV, and from PT to OV.
+SR_TO_OS, FS_TO_TR, FS_TO_OV, PT_TO_OV = 87, 69, 71, 86
 
 
 def call(kind, *numbers, flags=b"", lent=SESSION, gives=None):
@@ -199,6 +202,36 @@ def five_orders():
     yield from rows(0, 2, 5)
 
 
+def missing_position_first():
+    """A train that holds four orders, and a position is missing that the order needs: 18 comes before 20, whichever train it is."""
+    yield from trains(TO_SR, TO_SR, TO_SR, TO_SR, TO_SR, TO_SR)
+    for other in (2, 3, 4, 5):
+        yield call(SOS, 1, 1, other, other, 1, gives=(0, 5, 1, 0))
+    for n in (1, 6):
+        yield step((n, n), SR_TO_OS, gives=(0, 6, 6, 0))
+    yield from rows(0, 5)
+    # M2 needs L1's position, M4 both. Train 1, which has no place, is L2, and then L1.
+    yield call(SOS, 1, 1, 6, 6, 1, gives=18)
+    yield call(SOS, 1, 1, 6, 6, 3, gives=18)
+    yield call(SOS, 6, 6, 1, 1, 3, gives=18)
+    yield call(POSITION, 6, 6, 6000, 5800, gives=0)
+    yield call(SOS, 1, 1, 6, 6, 1, gives=20)
+    yield call(SOS, 1, 1, 6, 6, 3, gives=18)
+    yield call(SOS, 6, 6, 1, 1, 3, gives=18)
+    # M3 needs L2's own.
+    yield step((1, 1), 7, gives=(0, 1, 5, 0))
+    yield step((1, 1), TO_PT, gives=(0, 8, 4, 0))
+    yield call(SOS, 1, 1, 6, 6, 4, gives=18)
+    yield call(POSITION, 1, 1, 5000, 4800, gives=0)
+    yield call(SOS, 1, 1, 6, 6, 4, gives=20)
+    yield call(SOS, 1, 1, 6, 6, 3, gives=20)
+    yield call(SOS, 6, 6, 1, 1, 3, gives=20)
+    yield from rows(0, 5)
+    yield call(CLEAR, 1, 1, 3, gives=0)
+    yield call(SOS, 1, 1, 6, 6, 4, gives=(0, 3, 2, 0))
+    yield from rows(0, 5)
+
+
 def measures():
     """Every grid for every row class of L2, with L1 in SR, and what each then holds."""
     yield from trains(TO_SR, TO_LS, TO_OS, TO_FS, TO_OV, TO_FS, TO_FS, TO_PT, TO_PT, TO_SR)
@@ -244,9 +277,9 @@ def refused_numbers():
         yield call(FLAGS, 1, 1, flags=bytes(place) + bytes([flag]) + bytes(90 - place), gives=17)
     for front, rear in ((524288, 0), (524288, 524288), (9, 10), (0, 524288), (MOST, MOST), (NONE, 0)):
         yield call(POSITION, 1, 1, front, rear, gives=17)
-    for place in (524288, MOST - 1, 1 << 31):
-        yield call(AUTHORITY, 1, 1, place, gives=17)
-        yield call(DANGER, 1, 1, place, gives=17)
+    for location in (524288, MOST - 1, 1 << 31):
+        yield call(AUTHORITY, 1, 1, location, gives=17)
+        yield call(DANGER, 1, 1, location, gives=17)
     for grid in (0, 5, 257, MOST):
         yield call(SOS, 1, 1, 2, 2, grid, gives=17)
         yield call(SOS, 1, 1, 1, 1, grid, gives=23)
@@ -402,8 +435,8 @@ def walk(r, length):
 
 
 def cases():
-    for group in (paper_listing, slots, full_register, stale_ticket, head_on, behind, five_orders, measures, refusals, refused_sos, another_length, mode_steps,
-                  stepping_back, last_ticket):
+    for group in (paper_listing, slots, full_register, stale_ticket, head_on, behind, five_orders, missing_position_first, measures, refusals, refused_sos,
+                  another_length, mode_steps, stepping_back, last_ticket):
         yield from group()
     yield from walk(random.Random(7), 240)
 

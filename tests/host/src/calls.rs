@@ -111,7 +111,7 @@ impl Calls {
             return packets::call(&mut self.random);
         }
         if self.plan == Plan::Damaged && self.random.chance(3) {
-            return Call::new(Kind::Poke, &[self.place_to_poke(), self.random.below(256)]);
+            return Call::new(Kind::Poke, &[self.offset_to_poke(), self.random.below(256)]);
         }
         if self.random.below(400) == 0 {
             self.sweep();
@@ -166,10 +166,10 @@ impl Calls {
         bytes
     }
 
-    /// A byte of the header, the book or the rows more often than one of the log.
-    fn place_to_poke(&mut self) -> u32 {
+    /// The offset of a byte near the front, where what stands is kept, more often than of one of the log behind it.
+    fn offset_to_poke(&mut self) -> u32 {
         if self.random.chance(70) {
-            self.random.below(1_664)
+            self.random.below(SESSION / 12)
         } else {
             self.random.below(SESSION)
         }

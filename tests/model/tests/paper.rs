@@ -276,6 +276,15 @@ fn refusals_come_in_the_table_s_order() {
     assert_eq!(session.sos(names[5], names[0], 2), refused(20));
     // The same other ticket replaces, so a full train can still be named again.
     assert_eq!(session.sos(names[0], names[1], 2), accepted([6, 1, 0]));
+    // In OS the order needs positions: a missing one is told before the missing place.
+    session.flags(names[0], &flags(&[87]));
+    assert_eq!(session.sos(names[0], names[5], 1), refused(18));
+    assert_eq!(session.sos(names[0], names[5], 3), refused(18));
+    session.position(names[5], 6_000, 5_800);
+    assert_eq!(session.sos(names[0], names[5], 1), refused(20));
+    assert_eq!(session.sos(names[0], names[5], 3), refused(18));
+    session.position(names[0], 5_000, 4_800);
+    assert_eq!(session.sos(names[0], names[5], 3), refused(20));
 }
 
 #[test]

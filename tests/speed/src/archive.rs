@@ -1,9 +1,10 @@
 //! The archive's functions, in the header's order. An answer of more than 16 bytes goes through a pointer that the caller passes first:
 //! that is what C's convention for x86-64 makes of a struct by value, and what the archive's code does on any processor.
 
+use bench_model::header::SESSION_SIZE;
 use bench_model::session::Pair;
 
-pub const SESSION: usize = 24_704;
+const SESSION: usize = SESSION_SIZE as usize;
 
 #[repr(C)]
 #[derive(Clone, Copy, Default)]

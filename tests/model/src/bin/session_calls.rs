@@ -2,12 +2,12 @@
 //!
 //! A call: kind (1 byte), session bytes lent and length of the rest (2 each), then numbers of 4 bytes and flags.
 
+use bench_model::header::SESSION_SIZE;
 use bench_model::session::{Answer, Pair, Session};
 use bench_model::train::{Order, Train};
 use std::io::{self, Read, Write};
 
-/// A session that is lent with any other length is refused with 34.
-const SESSION_BYTES: u32 = 24_704;
+/// The answer to a session that is lent with any other length.
 const WRONG_LENGTH: u32 = 34;
 
 struct Call<'a> {
@@ -35,7 +35,7 @@ impl<'a> Call<'a> {
     }
 
     fn answer(&self, session: &mut Session) -> Answer {
-        if self.lent != SESSION_BYTES {
+        if self.lent != SESSION_SIZE {
             return Err(WRONG_LENGTH).into();
         }
         match self.kind {
