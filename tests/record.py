@@ -1,5 +1,8 @@
 #!/usr/bin/env python3
-"""Tries tools/record: the message for each sort of bad line, and every recording shown and made again: tests/record.py"""
+"""Tries tools/record: tests/record.py
+
+The message for each sort of bad line, and for each sort of damage to a recording; many recordings shown and made again.
+"""
 
 import contextlib
 import importlib.machinery
@@ -35,6 +38,18 @@ BAD_LINES = (
 )
 
 
+# Each damage behind a good record, and what its message says.
+GOOD = bytes.fromhex("4B 56 09 02 00 01")
+DAMAGES = (
+    ("4B 56 09", "record 2, at byte 6: a record begins with 4 bytes, and only 3 are left"),
+    ("4B 57 09 02 00 01", "record 2, at byte 6: the mark is 4B 57, not 4B 56"),
+    ("4B 56 00 00", "record 2, at byte 6: the kind is 0, not 1 to 9"),
+    ("4B 56 0A 02 00 01", "record 2, at byte 6: the kind is 10, not 1 to 9"),
+    ("4B 56 09 03 00 01 00", "record 2, at byte 6: kind 9 has a payload of 2 bytes, not 3"),
+    ("4B 56 09 02 00", "record 2, at byte 6: the payload has 2 bytes, and only 1 are left"),
+)
+
+
 def load():
     """The tool as a module."""
     loader = importlib.machinery.SourceFileLoader("record", str(TOOL))
@@ -52,10 +67,11 @@ def made(tool, lines):
 
 
 def shown(tool, recording):
-    output = io.StringIO()
-    with contextlib.redirect_stderr(io.StringIO()):
-        tool.show(io.BytesIO(recording), output)
-    return output.getvalue().encode()
+    """Exit status, lines and messages of show."""
+    output, messages = io.StringIO(), io.StringIO()
+    with contextlib.redirect_stderr(messages):
+        status = tool.show(io.BytesIO(recording), output)
+    return status, output.getvalue().encode(), messages.getvalue()
 
 
 def main():
@@ -65,13 +81,18 @@ def main():
         status, recording, messages = made(tool, f"# first\n{line}\n".encode())
         if status != 1 or recording or not messages.startswith("record: line 2: ") or message not in messages:
             wrong.append(f"'{line}': {messages}")
+    for damage, message in DAMAGES:
+        status, lines, messages = shown(tool, GOOD + bytes.fromhex(damage))
+        if status != 1 or messages != f"record: {message}\n" or not lines.startswith(f"back 1\n# the recording stops here: {message}\n".encode()):
+            wrong.append(f"'{damage}': {messages}")
     chance = random.Random(2)
     sorts = (recordings.sound, recordings.hostile, recordings.random_bytes, recordings.damaged, recordings.cut)
     for tries in range(1, 501):
         recording = sorts[tries % len(sorts)](chance)
-        if made(tool, shown(tool, recording)) != (0, recording, ""):
+        status, lines, messages = shown(tool, recording)
+        if status != int(messages != "") or made(tool, lines) != (0, recording, ""):
             wrong.append(f"not the same again: {recording.hex(' ')}")
-    print(*wrong, f"{len(BAD_LINES)} bad lines and {tries} recordings, {len(wrong)} differences", sep="\n")
+    print(*wrong, f"{len(BAD_LINES)} bad lines, {len(DAMAGES)} damages and {tries} recordings, {len(wrong)} differences", sep="\n")
     return 1 if wrong else 0
 
 

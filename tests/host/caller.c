@@ -18,7 +18,7 @@ enum kind {
     START, REQUEST, RELEASE, FLAGS, POSITION, AUTHORITY, DANGER, SOS, CLEAR, STEP_BACK,
     COUNTER, KEPT, IS_TAKEN, END, TRAIN,
     FRAME, READ_GATES, WRITE_GATES, FRAME_AGE, NEXT_MODE, SESSION_SIZE,
-    RUN_RECORD,
+    RUN_RECORD, LONGEST_RECORD,
     FILL = 30, /* the session's bytes are those given */
     POKE = 31  /* byte n[0] of the session is n[1] */
 };
@@ -60,9 +60,9 @@ static uint8_t *arena_end(size_t size)
     return start + whole;
 }
 
-static void read_exactly(void *place, size_t size)
+static void read_exactly(void *bytes, size_t size)
 {
-    if (fread(place, 1, size, stdin) != size)
+    if (fread(bytes, 1, size, stdin) != size)
         stop("the calls end too early");
 }
 
@@ -177,6 +177,7 @@ static void run(const struct call *c, const uint8_t *given, uint8_t *output)
     case FRAME_AGE: put_age(kb_frame_age(c->n[0], c->n[1])); break;
     case NEXT_MODE: put_step(kb_next_mode(c->n[0], given, c->given)); break;
     case SESSION_SIZE: reply.words[0] = word(kb_session_size()); break;
+    case LONGEST_RECORD: reply.words[0] = word(kb_longest_record()); break;
     case FILL: memcpy(session_end - KB_SESSION_SIZE, given, KB_SESSION_SIZE); break;
     case POKE: session_end[(ptrdiff_t)c->n[0] - KB_SESSION_SIZE] = (uint8_t)c->n[1]; break;
     default: operate(c, session_end - c->lent, given);
@@ -222,7 +223,7 @@ int main(void)
         run(&c, given, output);
         if (c.watch)
             reply.changed = changed(c.lent);
-        stale = c.watch ? (int)reply.changed : stale || c.kind <= STEP_BACK || c.kind >= RUN_RECORD;
+        stale = c.watch ? (int)reply.changed : stale || c.kind <= STEP_BACK || c.kind == RUN_RECORD || c.kind >= FILL;
         if (memcmp(as_given, given, c.given) != 0)
             reply.changed |= 2;
         fwrite(&reply, sizeof reply, 1, stdout);

@@ -71,6 +71,7 @@ impl Calls {
             granted: Vec::new(),
         };
         calls.next.push_back(Call::new(Kind::SessionSize, &[]));
+        calls.next.push_back(Call::new(Kind::LongestRecord, &[]));
         calls.next.push_back(Call::new(Kind::Start, &[]));
         calls
     }
@@ -294,8 +295,12 @@ impl Calls {
         Call::new(Kind::Position, &[loco, ticket, front, rear])
     }
 
+    /// In a full register mostly for one of few trains, so that its places for orders run out.
     fn sos(&mut self) -> Call {
-        let (two, one) = (self.name(), self.name());
+        let (mut two, one) = (self.name(), self.name());
+        if self.plan == Plan::Full && self.random.chance(60) {
+            two = self.live().get(self.random.below(4) as usize).copied().unwrap_or(two);
+        }
         let grid = self.either(30, |random| random.from(1, 4));
         Call::new(Kind::Sos, &[two.loco, two.ticket, one.loco, one.ticket, grid])
     }

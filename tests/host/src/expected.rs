@@ -1,7 +1,7 @@
 //! What the model says of each call: the words of the answer, the output afterwards, and whether the session changes.
 
 use crate::wire::{Call, Kind, Reply, PATTERN, SESSION, WORDS};
-use bench_model::recording::{run_first, Run};
+use bench_model::recording::{self, run_first, Run};
 use bench_model::session::{Answer, Pair, Session, NONE};
 use bench_model::train::Train;
 use bench_model::{clock, modes, packets};
@@ -88,6 +88,7 @@ impl Bench {
                 Expected::Nothing
             }
             Kind::SessionSize => Expected::words(&[SESSION]),
+            Kind::LongestRecord => Expected::words(&[recording::LONGEST as u32]),
             kind if !kind.takes_session() => without_session(call),
             Kind::RunRecord if !self.foreign || call.lent != SESSION => self.run_record(call),
             _ if call.lent != SESSION => Expected::words(&[WRONG_LENGTH]),

@@ -11,13 +11,18 @@ mod random;
 mod records;
 mod wire;
 
+use bench_model::header::defined;
+use bench_model::modes::FLAGS;
+use bench_model::packets::GATE_BYTES;
+use bench_model::recording::LONGEST;
+use bench_model::session::{ROWS, SLOTS};
 use calls::Calls;
 use expected::Expected;
-use std::collections::BTreeMap;
+use std::collections::{BTreeMap, BTreeSet};
 use std::io::{Read, Write};
 use std::process::{ChildStdin, Command, ExitCode, Stdio};
 use std::sync::mpsc::{sync_channel, Receiver, SyncSender};
-use wire::{Call, Reply, REPLY_BYTES};
+use wire::{Call, Kind, Reply, REPLY_BYTES};
 
 const BATCH: usize = 1_000;
 /// Of how many questions one is watched.
@@ -25,8 +30,19 @@ const WATCHED: usize = 10;
 
 type Batch = Vec<(Call, Expected)>;
 
-/// Every answer number that a call can give. A run of a million calls or more must have seen each.
+/// Every answer number that a call can give. A run of a million calls or more must have seen each, and must have called each function.
 const ANSWERS: [u32; 22] = [0, 1, 2, 3, 4, 5, 10, 11, 12, 13, 14, 15, 16, 17, 18, 19, 20, 21, 22, 23, 24, 34];
+
+/// The numbers that the header defines besides the session's size are the model's.
+const _: () = assert!(
+    defined("#define KB_ROWS ") == ROWS as u32
+        && defined("#define KB_SLOTS ") == SLOTS
+        && defined("#define KB_FLAGS ") == FLAGS as u32
+        && defined("#define KB_GATE_SIZE ") == GATE_BYTES as u32
+        && defined("#define KB_MOST_GATES ") == packets::MOST_GATES
+        && defined("#define KB_PACKET_SIZE ") == packets::PACKET as u32
+        && defined("#define KB_LONGEST_RECORD ") == LONGEST as u32
+);
 
 /// Makes the calls and sends them, each batch first to whoever compares.
 fn send(seed: u64, count: u64, mut caller: ChildStdin, compared: SyncSender<Batch>) {
@@ -46,23 +62,33 @@ fn send(seed: u64, count: u64, mut caller: ChildStdin, compared: SyncSender<Batc
     }
 }
 
-/// How often each answer was given.
+/// How often each answer was given, and which functions were called.
 #[derive(Default)]
 struct Seen {
     calls: u64,
+    kinds: BTreeSet<u32>,
     foreign: u64,
     answers: BTreeMap<u32, u64>,
 }
 
 impl Seen {
+    /// What a long run must have met, and did not.
+    fn missing(&self) -> Option<String> {
+        let answer = ANSWERS.iter().find(|&answer| !self.answers.contains_key(answer));
+        let kind = (0..=Kind::LongestRecord as u32).find(|kind| !self.kinds.contains(kind));
+        let answer = answer.map(|answer| format!("no call was answered {answer}"));
+        answer.or(kind.map(|kind| format!("no call was of kind {kind} (wire.rs names the kinds)")))
+    }
+
     fn note(&mut self, call: &Call, expected: &Expected, reply: &Reply) {
         match expected {
             Expected::Nothing => return,
             Expected::Foreign => self.foreign += 1,
-            Expected::Known { .. } if call.kind == wire::Kind::SessionSize => {}
+            Expected::Known { .. } if call.kind.is_number() => {}
             Expected::Known { .. } => *self.answers.entry(reply.words[0]).or_default() += 1,
         }
         self.calls += 1;
+        self.kinds.insert(call.kind as u32);
     }
 }
 
@@ -105,8 +131,8 @@ fn run(seed: u64, count: u64, command: &[String]) -> Result<Seen, String> {
     if !status.success() {
         return Err(format!("seed {seed}: the caller ended with {status}"));
     }
-    if let Some(missing) = ANSWERS.iter().find(|&answer| count >= 1_000_000 && !seen.answers.contains_key(answer)) {
-        return Err(format!("seed {seed}: no call was answered {missing}"));
+    if count >= 1_000_000 {
+        seen.missing().map_or(Ok(()), |missing| Err(format!("seed {seed}: {missing}")))?;
     }
     Ok(seen)
 }

@@ -5,8 +5,8 @@ use crate::random::Random;
 use crate::wire::{Call, Kind};
 use bench_model::packets::{write_gates, GATE_BYTES};
 
-const MOST_GATES: u32 = 28;
-const PACKET: usize = 125;
+pub const MOST_GATES: u32 = 28;
+pub const PACKET: usize = 125;
 
 pub fn call(random: &mut Random) -> Call {
     match random.below(6) {

@@ -36,6 +36,7 @@ pub enum Kind {
     NextMode,
     SessionSize,
     RunRecord,
+    LongestRecord,
     /// No call: the session's bytes become those given.
     Fill = 30,
     /// No call: one byte of the session becomes another.
@@ -45,6 +46,11 @@ pub enum Kind {
 impl Kind {
     pub fn is_call(self) -> bool {
         !matches!(self, Kind::Fill | Kind::Poke)
+    }
+
+    /// A number of the library, told without an answer.
+    pub fn is_number(self) -> bool {
+        matches!(self, Kind::SessionSize | Kind::LongestRecord)
     }
 
     pub fn takes_session(self) -> bool {

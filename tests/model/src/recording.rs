@@ -11,7 +11,7 @@ const HEADER: usize = 4;
 /// Payload bytes of kinds 1 to 9; a loco and a ticket take 6.
 const PAYLOADS: [usize; 9] = [6, 6, 6 + FLAGS, 14, 10, 10, 13, 8, 2];
 /// The longest record is kind 3.
-const LONGEST: usize = HEADER + PAYLOADS[2];
+pub const LONGEST: usize = HEADER + PAYLOADS[2];
 const MOST_RECORDS: u64 = 4_294_967_295;
 
 /// One record run: what its line says after the record number, and the bytes it took.

@@ -1,0 +1,70 @@
+#!/usr/bin/env python3
+"""What the example programs are given and must print, made anew and compared with what stands beside them:
+
+  tests/expected.py                     compares; the exit status is 1 where something differs
+  tests/expected.py --write             writes it instead, after a case or the session's size was changed
+  tests/expected.py --without-driver    compares, and leaves out what the independent model says, which cargo builds
+
+crates/bench is run on a sample. The lines of crates/session_runs come from the model.
+"""
+
+import pathlib
+import subprocess
+import sys
+
+ROOT = pathlib.Path(__file__).resolve().parent.parent
+CRATES = ROOT / "crates"
+MODEL = ROOT / "tests" / "model"
+CALLS = str(MODEL / "target" / "release" / "session_calls")
+
+# Each file below crates/, and the script with its words that makes it, or the sample that it is.
+SCRIPTS = {
+    "packet_runs/stdin": ("packet_cases.py", "stdin"),
+    "packet_runs/stdout": ("packet_cases.py", "stdout"),
+    "modes_runs/stdout": ("mode_steps.py",),
+    "train_runs/stdout": ("train_tables.py",),
+    "session_runs/stdin": ("session_cases.py", "stdin"),
+    "session_runs/stdout": ("session_cases.py", "stdout", CALLS),
+}
+SAMPLES = {"bench/stdin": "every-answer.rec", "bench/stdout": "every-answer.lst"}
+
+
+def made(name):
+    """The bytes of a file, made anew."""
+    if name in SAMPLES:
+        return (ROOT / "samples" / SAMPLES[name]).read_bytes()
+    script, *words = SCRIPTS[name]
+    return subprocess.run([sys.executable, str(ROOT / "tests" / script), *words], stdout=subprocess.PIPE, check=True).stdout
+
+
+def names(without_model):
+    """The files to make; the model is built where one of them needs it."""
+    wanted = sorted(SCRIPTS | SAMPLES)
+    if without_model:
+        return [name for name in wanted if CALLS not in SCRIPTS.get(name, ())]
+    subprocess.run(["cargo", "build", "--release", "--offline", "--quiet"], cwd=MODEL, check=True)
+    return wanted
+
+
+def main(words):
+    if words not in ([], ["--write"], ["--without-driver"]):
+        sys.exit(__doc__)
+    differing = 0
+    files = names(words == ["--without-driver"])
+    for name in files:
+        target, bytes_ = CRATES / name, made(name)
+        if words == ["--write"]:
+            target.write_bytes(bytes_)
+        elif not target.is_file() or target.read_bytes() != bytes_:
+            print(f"crates/{name} is not what tests/expected.py makes; see which of the two is right, and write it by --write")
+            differing += 1
+    for target in sorted(CRATES.glob("*/std*")):
+        if f"{target.parent.name}/{target.name}" not in SCRIPTS | SAMPLES:
+            print(f"{target.relative_to(ROOT)} is made by no script")
+            differing += 1
+    print(f"{len(files)} files that programs read or must print, {differing} differences")
+    return 1 if differing else 0
+
+
+if __name__ == "__main__":
+    sys.exit(main(sys.argv[1:]))
