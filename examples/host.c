@@ -71,7 +71,7 @@ int main(void)
     accepted("loco 7 stands at 4000", kb_position(KB_LEND(&bench), 7, rear, 4000, 3800));
     accepted("loco 8 stands at 6300", kb_position(KB_LEND(&bench), 8, ahead, 6300, 6100));
     accepted("loco 7 may go to 9000", kb_authority(KB_LEND(&bench), 7, rear, 9000));
-    accepted("signal at danger at 7500", kb_danger(KB_LEND(&bench), 7, rear, 7500));
+    accepted("danger location of loco 7 is 7500", kb_danger(KB_LEND(&bench), 7, rear, 7500));
     accepted("SOS, rear end: 7 behind 8", kb_sos(KB_LEND(&bench), 7, rear, 8, ahead, 1));
     accepted("end of loco 7", kb_end(KB_LEND(&bench), 7, rear));
     print_trains();

@@ -2,22 +2,33 @@
  *
  * THE WAY IT WORKS. The host lends numbers and byte buffers, and each call gives an answer by value. The library keeps no
  * memory of its own, allocates nothing, opens nothing and has no global state: all that lasts is in the session that the host
- * lends. So calls on different sessions may run at the same time; calls on one session may not.
+ * lends. So calls on different sessions may run at the same time. TWO CALLS AT ONCE ON ONE SESSION, or one call while the
+ * host writes to what it lends, are not allowed: nothing is claimed of them, of their answers or of the session afterwards. A
+ * host with several threads keeps them apart by a lock of its own.
  *
- * ANSWERS. Every answer has the field `answer`: 0 (KB_ACCEPTED), or the number of the one reason for a refusal (enum kb_reason).
- * A refusal gives zeros in all other fields (kb_run_record says which it keeps) and CHANGES NOTHING: neither the session nor any
- * lent buffer.
+ * ANSWERS. Every answer has the field `answer`: 0 (KB_ACCEPTED), or the number of the one reason for a refusal (enum
+ * kb_reason). A refusal gives zeros in all other fields (kb_run_record says which it keeps) and CHANGES NOTHING: neither the
+ * session nor any lent buffer.
  * Where several reasons hold, the answer is the first in the order in which the call lists them here.
  * Numbers are 32 bits wide and may be any: what is out of range is refused, never cut. A ticket of 65,537 is not ticket 1.
+ * BUT C CONVERTS A WIDER OR A SIGNED NUMBER BEFORE THE CALL, where the library cannot see it: of 64 bits the upper half is
+ * cut, so that 4,294,967,303 is loco 7, and -1 is 4,294,967,295, which is KB_NONE. Judge such numbers first; gcc shows them
+ * by -Wconversion -Wsign-conversion.
  *
- * BUFFERS. A buffer is a pointer and its length in bytes. The pointer must not be NULL, not even with a length of 0, and that
- * many bytes must be there: a length that lies is the one thing that the library cannot see. A buffer that a call changes must
- * not overlap another buffer of the same call. Nothing before a buffer's start or past its end is read or written.
+ * BUFFERS. A buffer is a pointer and its length in bytes, and that many bytes must be there: the library cannot see a length
+ * that lies. A buffer that a call changes must not overlap another buffer of the same call. Nothing before a buffer's start
+ * or past its end is read or written.
+ * NULL is no buffer, and no call looks for it: with a length above 0 it is read or written like any other address, and the
+ * host ends by a fault. With a length of 0 nothing is read or written there, but no more is claimed of it. Where a buffer is
+ * to be empty, lend the address of any byte, and 0.
  *
  * A SESSION is KB_SESSION_SIZE bytes (kb_session, or any buffer of that length), made by kb_start and changed by the other
- * calls alone. It has no pointers in it: it may be copied, saved and moved. A buffer of any other length is refused with 34 by
- * every call on a session, before all other reasons but 24. Bytes that these calls did not make do no harm (every call still ends,
- * touches nothing else, and changes nothing on a refusal), but what they answer has no meaning.
+ * calls alone. It has no pointers in it: it may be copied, saved and moved. A buffer of any other length is refused with 34
+ * by every call on a session, before all other reasons but 24. Bytes that these calls did not make do no harm (every call
+ * still ends, touches nothing else, and changes nothing on a refusal), but what they answer has no meaning.
+ * A COPY IS FOR LOOKING, A STEP BACK IS FOR GOING BACK. A saved copy holds the ticket counter of its time. A host that goes
+ * on from it is granted the tickets again that were granted since, and an old ticket may name a new train. kb_step_back
+ * leaves the counter, and no ticket is granted twice.
  *
  * NAMES. `loco` is a loco number, 1 to 131,070; `ticket` is what kb_request granted, 1 to 65,535. Every later call on a train
  * names both. Locations are whole metres, 0 to 524,287, rising ahead. Modes: 1 SB, 2 SR, 3 LS, 4 FS, 5 OV, 6 OS, 7 TR, 8 PT,
@@ -47,7 +58,7 @@ enum kb_reason {
     KB_FIELD = 4,       /* a gate's field whose value is not allowed or, writing, too large for its width */
     KB_PADDING = 5,     /* the bits that fill up the last byte are not zero */
     /* Sessions, the mode step and the frame age. */
-    KB_LOCO = 10,       /* a loco number that is not 1 to 131,070 */
+    KB_LOCO = 10,       /* a loco number that is not 1 to 131,070, of a request too */
     KB_BYTES = 11,      /* a request for other than 1 to 324 bytes */
     KB_REGISTERED = 12, /* the loco is registered already: use its ticket, or release it first */
     KB_FULL = 13,       /* 24 trains are registered */
@@ -66,7 +77,7 @@ enum kb_reason {
     KB_SESSION = 34     /* the lent session has another length than KB_SESSION_SIZE */
 };
 
-/* Stands for no authority and no signal at danger, both ways; and in a kb_train for no position, and for an order's limit
+/* Stands for no authority and no danger location, both ways; and in a kb_train for no position, and for an order's limit
  * where the order is bare. */
 #define KB_NONE UINT32_C(4294967295)
 
@@ -165,7 +176,7 @@ size_t kb_session_size(void);
 kb_answer kb_start(uint8_t *session, size_t session_len);
 
 /* Registers a loco that asks for `bytes` bytes: (bytes / 54) rounded up slots side by side, at the lowest free start. It
- * is in mode SB, in the first empty row, with no position, authority, signal or order.
+ * is in mode SB, in the first empty row, with no position, authority, danger location or order.
  * Numbers: its ticket, its first slot, its slots.
  * Refused: 10 loco out of range; 11 bytes not 1 to 324; 12 loco registered; 13 24 trains; 14 no ticket left; 15 no free run. */
 kb_answer kb_request(uint8_t *session, size_t session_len, uint32_t loco, uint32_t bytes);
@@ -184,7 +195,7 @@ kb_answer kb_position(uint8_t *session, size_t session_len, uint32_t loco, uint3
 /* Grants an authority up to `end`, or none (KB_NONE). Numbers: as kb_end. Refused: 10; 16; 17 any other number above 524,287. */
 kb_answer kb_authority(uint8_t *session, size_t session_len, uint32_t loco, uint32_t ticket, uint32_t end);
 
-/* Tells of a signal at danger at `location`, or of none (KB_NONE). It does not bind a train in OV.
+/* Tells the danger location, that of a signal at danger, or that there is none (KB_NONE). It does not bind a train in OV.
  * Numbers: as kb_end. Refused: 10; 16; 17 any other number above 524,287. */
 kb_answer kb_danger(uint8_t *session, size_t session_len, uint32_t loco, uint32_t ticket, uint32_t location);
 

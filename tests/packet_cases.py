@@ -175,9 +175,9 @@ def cases():
         yield 3, 300, bytes([1]) * length
     yield 3, 300, outside([gate()] * 28)
     yield 3, 300, outside([gate()] * 29)
-    for place, value in ((0, 128), (2, 4), (4, 8), (5, 2), (6, 8), (7, 2), (8, 4)):
+    for offset, value in ((0, 128), (2, 4), (4, 8), (5, 2), (6, 8), (7, 2), (8, 4)):
         list_ = bytearray(outside([gate(), gate()]))
-        list_[9 + place] = value
+        list_[9 + offset] = value
         yield 3, 300, bytes(list_)
     for room in (7, 6, 0, 12):
         yield 3, room, outside([gate()])

@@ -161,7 +161,7 @@ class Day:
         end = NONE if self.chance.random() < 0.1 else self.chance.randint(0, LAST_LOCATION)
         yield authority(self.name(), end)
 
-    def signal(self):
+    def danger_told(self):
         location = NONE if self.chance.random() < 0.3 else self.chance.randint(0, LAST_LOCATION)
         yield danger(self.name(), location)
 
@@ -219,7 +219,7 @@ class Day:
             return request(loco, SLOT_BYTES)
         if pick > 0.97 and len(self.trains) > 1:
             return next(self.departure())
-        return next(self.chance.choice((self.report, self.grant_end, self.signal, self.conditions))())
+        return next(self.chance.choice((self.report, self.grant_end, self.danger_told, self.conditions))())
 
     def refusal(self):
         """A record with something wrong in it: a stale ticket, a number out of range, a loco that is not there."""
@@ -255,7 +255,7 @@ class Day:
 ACTIONS, WEIGHTS = zip(
     (Day.report, 30),
     (Day.grant_end, 10),
-    (Day.signal, 8),
+    (Day.danger_told, 8),
     (Day.conditions, 12),
     (Day.isolation, 1),
     (Day.emergency, 10),
@@ -339,7 +339,7 @@ def random_bytes(chance):
 
 
 def header_byte(chance, recording):
-    """The place of a byte in some record's header."""
+    """The offset of a byte in some record's header."""
     starts, at = [], 0
     while at < len(recording):
         starts.append(at)

@@ -141,7 +141,7 @@ def head_on():
     yield call(BACK, 1, gives=0)
     yield from rows(0, 1)
     yield call(END, 1, 1, gives=(0, 1, 9000, 0))
-    # The other way round, twice: the same ticket replaces, at the places then reported. M6 makes both bare.
+    # The other way round, twice: the same ticket replaces, at the positions then reported. M6 makes both bare.
     yield call(SOS, 2, 2, 1, 1, 2, gives=(0, 4, 2, 0))
     yield call(POSITION, 1, 1, 5500, 5300, gives=(0, 1, 5000, 0))
     yield call(SOS, 2, 2, 1, 1, 2, gives=(0, 4, 2, 0))
@@ -273,8 +273,8 @@ def refused_numbers():
         yield call(REQUEST, 1, bytes_, gives=11)
     for length in (0, 90, 92):
         yield call(FLAGS, 1, 1, flags=set_flags(2, length=length), gives=17)
-    for place, flag in ((0, 2), (90, 2), (45, 255)):
-        yield call(FLAGS, 1, 1, flags=bytes(place) + bytes([flag]) + bytes(90 - place), gives=17)
+    for before, flag in ((0, 2), (90, 2), (45, 255)):
+        yield call(FLAGS, 1, 1, flags=bytes(before) + bytes([flag]) + bytes(90 - before), gives=17)
     for front, rear in ((524288, 0), (524288, 524288), (9, 10), (0, 524288), (MOST, MOST), (NONE, 0)):
         yield call(POSITION, 1, 1, front, rear, gives=17)
     for location in (524288, MOST - 1, 1 << 31):

@@ -52,8 +52,8 @@ fn send(seed: u64, count: u64, mut caller: ChildStdin, compared: SyncSender<Batc
         let batch: Batch = (0..BATCH).map(|_| calls.next()).collect();
         made += batch.iter().filter(|(call, _)| call.kind.is_call()).count() as u64;
         let mut bytes = Vec::new();
-        for (place, (call, expected)) in batch.iter().enumerate() {
-            call.put(expected.watches(call, place % WATCHED == 0), &mut bytes);
+        for (n, (call, expected)) in batch.iter().enumerate() {
+            call.put(expected.watches(call, n % WATCHED == 0), &mut bytes);
         }
         // Where the caller has stopped, or a difference was found, there is nothing more to do.
         if compared.send(batch).is_err() || caller.write_all(&bytes).is_err() {
@@ -99,12 +99,12 @@ fn compare(mut caller: impl Read, batches: Receiver<Batch>) -> Result<Seen, Stri
         let mut head = [0; REPLY_BYTES];
         let mut output = vec![0; call.room as usize];
         let read = caller.read_exact(&mut head).and_then(|()| caller.read_exact(&mut output));
-        let place = seen.calls + 1;
+        let number = seen.calls + 1;
         // Answers that the caller had not yet handed on are lost with it.
-        read.map_err(|error| format!("no answer from call {place} on ({error}): {call:?}"))?;
+        read.map_err(|error| format!("no answer from call {number} on ({error}): {call:?}"))?;
         let reply = Reply::of(&head, output);
         if let Some(fault) = expected.fault(&call, &reply) {
-            return Err(format!("call {place}: {call:?}\nanswers {reply:?}\n{fault}"));
+            return Err(format!("call {number}: {call:?}\nanswers {reply:?}\n{fault}"));
         }
         seen.note(&call, &expected, &reply);
     }

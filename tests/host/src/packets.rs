@@ -82,8 +82,8 @@ fn list(random: &mut Random) -> Vec<u8> {
 
 fn change_byte(random: &mut Random, bytes: &mut [u8]) {
     if !bytes.is_empty() {
-        let place = random.below(bytes.len() as u32) as usize;
-        bytes[place] = if random.chance(50) { random.word() as u8 } else { bytes[place] ^ 1 << random.below(8) };
+        let offset = random.below(bytes.len() as u32) as usize;
+        bytes[offset] = if random.chance(50) { random.word() as u8 } else { bytes[offset] ^ 1 << random.below(8) };
     }
 }
 
@@ -103,7 +103,7 @@ fn packet(random: &mut Random) -> Vec<u8> {
         }
         5 => packet[0] = random.word() as u8,
         6 => packet[1] = random.word() as u8,
-        // the padding, or what stands in its place
+        // the padding, or what stands there
         7 => *packet.last_mut().expect("a header at least") |= 1 << random.below(5),
         8 => {
             packet = {

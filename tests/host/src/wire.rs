@@ -106,7 +106,7 @@ pub struct Reply {
 
 impl Reply {
     pub fn of(head: &[u8; REPLY_BYTES], output: Vec<u8>) -> Reply {
-        let word = |place: usize| u32::from_le_bytes(head[4 * place..4 * place + 4].try_into().expect("four bytes"));
-        Reply { changed: word(0), words: std::array::from_fn(|place| word(place + 1)), output }
+        let word = |n: usize| u32::from_le_bytes(head[4 * n..4 * n + 4].try_into().expect("four bytes"));
+        Reply { changed: word(0), words: std::array::from_fn(|n| word(n + 1)), output }
     }
 }

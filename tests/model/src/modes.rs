@@ -42,13 +42,13 @@ pub struct Transition {
     pub conditions: u128,
 }
 
-/// The transitions that leave each mode; mode n is at place n - 1.
+/// The transitions that leave each mode; mode n is at n - 1.
 pub static TRANSITIONS: LazyLock<Vec<Vec<Transition>>> = LazyLock::new(|| {
     let lines = LINES.lines().map(|line| line[2..].split_once(": ").expect("mode: transitions"));
     let table: Vec<_> = lines
         .enumerate()
-        .map(|(place, (mode, list))| {
-            assert_eq!(number(mode) as usize, place + 1, "the lines stand in the order of the modes");
+        .map(|(before, (mode, list))| {
+            assert_eq!(number(mode) as usize, before + 1, "the lines stand in the order of the modes");
             list.split(' ').map(transition).collect()
         })
         .collect();

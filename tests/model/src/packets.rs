@@ -127,9 +127,9 @@ fn unpack(packet: &[u8], output: &mut [u8]) {
     for gate in output.chunks_exact_mut(GATE_BYTES) {
         let mut rest = gate;
         for field in &FIELDS {
-            let (place, after) = rest.split_at_mut(field.bytes);
+            let (bytes, after) = rest.split_at_mut(field.bytes);
             let value = bits(packet, at, field.bits).to_be_bytes();
-            place.copy_from_slice(&value[4 - field.bytes..]);
+            bytes.copy_from_slice(&value[4 - field.bytes..]);
             at += field.bits;
             rest = after;
         }

@@ -77,11 +77,11 @@ fn operate(session: &mut Session, kind: u8, mut of: Payload) -> Answer {
     }
 }
 
-/// Reads until the place is full or the input ends; gives the bytes read.
-fn fill(input: &mut impl Read, place: &mut [u8]) -> io::Result<usize> {
+/// Reads until the buffer is full or the input ends; gives the bytes read.
+fn fill(input: &mut impl Read, buffer: &mut [u8]) -> io::Result<usize> {
     let mut held = 0;
-    while held < place.len() {
-        match input.read(&mut place[held..]) {
+    while held < buffer.len() {
+        match input.read(&mut buffer[held..]) {
             Ok(0) => break,
             Ok(count) => held += count,
             Err(error) if error.kind() == ErrorKind::Interrupted => {}
@@ -91,14 +91,14 @@ fn fill(input: &mut impl Read, place: &mut [u8]) -> io::Result<usize> {
     Ok(held)
 }
 
-/// Fetches a header and as many bytes as it announces and the place can hold; 0 bytes at the end of the input.
-fn fetch(input: &mut impl Read, place: &mut [u8; LONGEST]) -> io::Result<usize> {
-    let held = fill(input, &mut place[..HEADER])?;
+/// Fetches a header and as many bytes as it announces and the buffer can hold; 0 bytes at the end of the input.
+fn fetch(input: &mut impl Read, buffer: &mut [u8; LONGEST]) -> io::Result<usize> {
+    let held = fill(input, &mut buffer[..HEADER])?;
     if held < HEADER {
         return Ok(held);
     }
-    let end = LONGEST.min(HEADER + usize::from(place[3]));
-    Ok(held + fill(input, &mut place[HEADER..end])?)
+    let end = LONGEST.min(HEADER + usize::from(buffer[3]));
+    Ok(held + fill(input, &mut buffer[HEADER..end])?)
 }
 
 /// The listing of a recording of any size. Both ends should be buffered.

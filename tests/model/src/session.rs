@@ -74,8 +74,8 @@ impl Session {
     // The nine operations.
 
     pub fn request(&mut self, loco: u32, bytes: u32) -> Answer {
-        let place = self.place_for(loco, bytes);
-        place.map(|(row, start, slots)| self.grant(row, loco, start, slots)).into()
+        let room = self.room_for(loco, bytes);
+        room.map(|(row, start, slots)| self.grant(row, loco, start, slots)).into()
     }
 
     pub fn release(&mut self, name: Pair) -> Answer {
@@ -103,8 +103,8 @@ impl Session {
         self.change(name, |train| Ok(with_end(Train { authority: location_or_none(end)?, ..train })))
     }
 
-    pub fn danger(&mut self, name: Pair, signal: u32) -> Answer {
-        self.change(name, |train| Ok(with_end(Train { danger: location_or_none(signal)?, ..train })))
+    pub fn danger(&mut self, name: Pair, metres: u32) -> Answer {
+        self.change(name, |train| Ok(with_end(Train { danger: location_or_none(metres)?, ..train })))
     }
 
     pub fn sos(&mut self, l2: Pair, l1: Pair, grid: u32) -> Answer {
@@ -204,7 +204,7 @@ impl Session {
     // Request and release.
 
     /// Row, first slot and number of slots for a request.
-    fn place_for(&self, loco: u32, bytes: u32) -> Result<(usize, u32, u32), u32> {
+    fn room_for(&self, loco: u32, bytes: u32) -> Result<(usize, u32, u32), u32> {
         loco_in_range(loco)?;
         if !(1..=MOST_BYTES).contains(&bytes) {
             return Err(BAD_BYTES);

@@ -198,7 +198,7 @@ fn session_cases(trains: u32) -> Vec<Case> {
         case("flags, the mode stays", on_session!(|session, name| session.flags(name, &[0; 91]))),
         position(trains),
         case("authority", on_session!(|session, name| session.authority(name, 9_000))),
-        case("danger signal", on_session!(|session, name| session.danger(name, 7_500))),
+        case("danger", on_session!(|session, name| session.danger(name, 7_500))),
     ];
     if trains > 1 {
         let sos = on_session!(|session, two| {

@@ -146,10 +146,10 @@ fn table(recording: &str, counted: Option<Vec<[f64; 2]>>) {
     let recording = std::fs::read(recording).expect("the recording");
     println!("| Call | ours, ns | model, ns | ratio | ours, instructions | model, instructions | ratio |");
     println!("|---|---:|---:|---:|---:|---:|---:|");
-    for (place, case) in cases::all().iter().enumerate() {
+    for (at, case) in cases::all().iter().enumerate() {
         let time = medians(case);
         let counts = counted.as_ref().map_or("- | - | -".into(), |counted| {
-            let count = counted[place];
+            let count = counted[at];
             format!("{:.0} | {:.0} | {:.1}", count[0], count[1], ratio(count))
         });
         println!("| {} | {:.0} | {:.0} | {:.1} | {counts} |", case.name, time[0], time[1], ratio(time));
@@ -164,8 +164,8 @@ fn table(recording: &str, counted: Option<Vec<[f64; 2]>>) {
 }
 
 /// Rounds of one case, or only what comes before each.
-fn only(place: usize, side: &str, before: bool, rounds: u32) {
-    let case = &cases::all()[place];
+fn only(at: usize, side: &str, before: bool, rounds: u32) {
+    let case = &cases::all()[at];
     let mut timed = if side == "ours" { case.ours() } else { case.model() };
     for _ in 0..rounds {
         if let Some(first) = &mut timed.before {
@@ -185,8 +185,8 @@ fn main() {
         ["table", recording, path] => table(recording, Some(counts(path))),
         ["programs", ours, model, recording] => programs(ours, model, recording),
         ["cases"] => println!("{}", cases::all().len()),
-        [what @ ("only" | "before"), place, side, rounds] => {
-            only(place.parse().expect("a place"), side, what == "before", rounds.parse().expect("rounds"))
+        [what @ ("only" | "before"), at, side, rounds] => {
+            only(at.parse().expect("a case"), side, what == "before", rounds.parse().expect("rounds"))
         }
         _ => eprintln!(
             "usage: bench_speed table RECORDING [COUNTS] | programs OURS MODEL RECORDING | cases | only CASE SIDE ROUNDS | before CASE SIDE ROUNDS"
