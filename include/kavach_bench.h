@@ -9,7 +9,8 @@
  * ANSWERS. Every answer has the field `answer`: 0 (KB_ACCEPTED), or the number of the one reason for a refusal (enum
  * kb_reason). A refusal gives zeros in all other fields (kb_run_record says which it keeps) and CHANGES NOTHING: neither the
  * session nor any lent buffer.
- * Where several reasons hold, the answer is the first in the order in which the call lists them here.
+ * Where several reasons hold, the answer is the first in the order in which the call lists them here. docs/ANSWERS.md says of
+ * each reason what to do about it.
  * Numbers are 32 bits wide and may be any: what is out of range is refused, never cut. A ticket of 65,537 is not ticket 1.
  * BUT C CONVERTS A WIDER OR A SIGNED NUMBER BEFORE THE CALL, where the library cannot see it: of 64 bits the upper half is
  * cut, so that 4,294,967,303 is loco 7, and -1 is 4,294,967,295, which is KB_NONE. Judge such numbers first; gcc shows them
@@ -34,7 +35,8 @@
  * names both. Locations are whole metres, 0 to 524,287, rising ahead. Modes: 1 SB, 2 SR, 3 LS, 4 FS, 5 OV, 6 OS, 7 TR, 8 PT,
  * 9 RV, 10 SH, 11 NL, 12 SF, 13 IS.
  *
- * LINKING. `rt staticlib host` writes target/staticlib/libhost.a, for x86-64 Linux. examples/host.c is a whole small host.
+ * LINKING. `rt staticlib host` writes target/staticlib/libhost.a, for x86-64 Linux and its C calling convention.
+ * examples/host.c is a whole small host.
  * The library approves nothing: no equipment, no line, no train.
  */
 #ifndef KAVACH_BENCH_H
