@@ -3,6 +3,7 @@
 //! A call: kind, bytes of the session that are lent, five numbers, length of what is given, length of the output that is lent, 1 where
 //! the session is watched; then what is given. A reply: the mark of changes, 19 words of the answer; then the whole output.
 
+/// The bytes of a session, as the header has them.
 pub use bench_model::header::SESSION_SIZE as SESSION;
 
 /// How much longer than a session a lent one may be.
