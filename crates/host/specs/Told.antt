@@ -12,17 +12,19 @@ use Rattle.trains.specs.declared.record.Location.the-variants.{Nowhere, At}
 use Rattle.trains.specs.declared.record.Position.{Position}
 use Rattle.trains.specs.declared.record.Position.the-variants.{Unknown, Between}
 use Rattle.trains.specs.declared.record.Train.{Train}
-use Rattle.store.specs.View.{viewOf, rowIn}
-use Rattle.rulings.specs.Refusals.{wrongLength}
-use Rattle.rulings.specs.Ruling.{acceptedWith, refusedWith}
-use Rattle.rulings.specs.declared.ruling.Answer.{Answer}
-use Rattle.session.specs.Answers.{ifSession}
+use Rattle.rules.specs.Refusals.{wrongLength}
+use Rattle.rules.specs.Ruling.{acceptedWith}
+use Rattle.rules.specs.View.{rowIn}
+use Rattle.rules.specs.declared.ruling.Answer.{Answer}
+use Rattle.store.specs.Layout.{isSession}
+use Rattle.store.specs.View.{viewOf}
+use Rattle.session.specs.Answers.{ofSession}
 use Rattle.host.specs.declared.told.OrderTold.{OrderTold}
 use Rattle.host.specs.declared.told.TrainAnswer.{TrainAnswer}
 
 -- a number that was asked of a session
 unfoldable pub numberAnswer : List ℕ → ℕ → Answer
-numberAnswer bs n = ifSession bs (acceptedWith n 0 0) (refusedWith wrongLength)
+numberAnswer bs n = ofSession bs (acceptedWith n 0 0)
 
 -- 1 for yes and 0 for no
 unfoldable pub oneIf : Bool → ℕ
@@ -96,4 +98,4 @@ trainRefused ground = record {
 
 -- the train in a row, counted from 0
 unfoldable pub trainAnswer : List ℕ → ℕ → TrainAnswer
-trainAnswer bs row = ifSession bs (trainTold (rowIn (viewOf bs) row)) (trainRefused wrongLength)
+trainAnswer bs row = cond (isSession bs) (trainTold (rowIn (viewOf bs) row)) (trainRefused wrongLength)

@@ -1,11 +1,13 @@
 // The operations on a lent session, under their names in C. `number` is a loco's number, and `under` the ticket that it was granted.
-use rulings::ruling::Answer;
+use rules::deeds::Deed;
+use rules::ruling::Answer;
 use session::operations;
 use store::layout;
 use trains::kinds::Loco;
 use trains::kinds::Ticket;
 ghost use mathlib.Core.Path.{_≡_};
 ghost use Rattle.store.specs.Layout.{sessionBytes};
+ghost use Rattle.rules.specs.Deeds.{meant, flags, position, authority, danger, clear};
 ghost use Rattle.rules.specs.Rules.{Op};
 ghost use Rattle.session.specs.Answers.{answerTo, bytesAfter, backAnswer, backAfter, startAnswer, startAfter};
 ghost use Rattle.host.specs.Kinds.{loco, ticket};
@@ -42,12 +44,20 @@ pub extern "C" fn kb_release(session: &mut [u8], number: u32, under: u32) -> Ans
     operations::release(session, Loco(number), Ticket(under))
 }
 
-#[no_mangle]
-pub extern "C" fn kb_flags(session: &mut [u8], number: u32, under: u32, flags: &[u8]) -> Answer
-    ensures { λ r. ⌜ r ≡ answerTo (now (session .entry)) (Op.flags (loco number) (ticket under) (now (flags .entry))) ⌝ }
-    ensures { λ _. ⌜ now (session .exit) ≡ bytesAfter (now (session .entry)) (Op.flags (loco number) (ticket under) (now (flags .entry))) ⌝ }
+// A deed on one train, by numbers.
+fn on(session: &mut [u8], number: u32, under: u32, deed: Deed, bits: &[u8]) -> Answer
+    ensures { λ r. ⌜ r ≡ answerTo (now (session .entry)) (Op.on (loco number) (ticket under) (meant deed (now (bits .entry)))) ⌝ }
+    ensures { λ _. ⌜ now (session .exit) ≡ bytesAfter (now (session .entry)) (Op.on (loco number) (ticket under) (meant deed (now (bits .entry)))) ⌝ }
 {
-    operations::flags(session, Loco(number), Ticket(under), flags)
+    operations::on(session, Loco(number), Ticket(under), deed, bits)
+}
+
+#[no_mangle]
+pub extern "C" fn kb_flags(session: &mut [u8], number: u32, under: u32, bits: &[u8]) -> Answer
+    ensures { λ r. ⌜ r ≡ answerTo (now (session .entry)) (Op.on (loco number) (ticket under) (flags (now (bits .entry)))) ⌝ }
+    ensures { λ _. ⌜ now (session .exit) ≡ bytesAfter (now (session .entry)) (Op.on (loco number) (ticket under) (flags (now (bits .entry)))) ⌝ }
+{
+    on(session, number, under, Deed::Flags, bits)
 }
 
 #[no_mangle]
@@ -58,26 +68,26 @@ pub extern "C" fn kb_position(
     front: u32,
     rear: u32,
 ) -> Answer
-    ensures { λ r. ⌜ r ≡ answerTo (now (session .entry)) (Op.position (loco number) (ticket under) front rear) ⌝ }
-    ensures { λ _. ⌜ now (session .exit) ≡ bytesAfter (now (session .entry)) (Op.position (loco number) (ticket under) front rear) ⌝ }
+    ensures { λ r. ⌜ r ≡ answerTo (now (session .entry)) (Op.on (loco number) (ticket under) (position front rear)) ⌝ }
+    ensures { λ _. ⌜ now (session .exit) ≡ bytesAfter (now (session .entry)) (Op.on (loco number) (ticket under) (position front rear)) ⌝ }
 {
-    operations::position(session, Loco(number), Ticket(under), front, rear)
+    on(session, number, under, Deed::Position(front, rear), b"")
 }
 
 #[no_mangle]
 pub extern "C" fn kb_authority(session: &mut [u8], number: u32, under: u32, end: u32) -> Answer
-    ensures { λ r. ⌜ r ≡ answerTo (now (session .entry)) (Op.authority (loco number) (ticket under) end) ⌝ }
-    ensures { λ _. ⌜ now (session .exit) ≡ bytesAfter (now (session .entry)) (Op.authority (loco number) (ticket under) end) ⌝ }
+    ensures { λ r. ⌜ r ≡ answerTo (now (session .entry)) (Op.on (loco number) (ticket under) (authority end)) ⌝ }
+    ensures { λ _. ⌜ now (session .exit) ≡ bytesAfter (now (session .entry)) (Op.on (loco number) (ticket under) (authority end)) ⌝ }
 {
-    operations::authority(session, Loco(number), Ticket(under), end)
+    on(session, number, under, Deed::Authority(end), b"")
 }
 
 #[no_mangle]
 pub extern "C" fn kb_danger(session: &mut [u8], number: u32, under: u32, location: u32) -> Answer
-    ensures { λ r. ⌜ r ≡ answerTo (now (session .entry)) (Op.danger (loco number) (ticket under) location) ⌝ }
-    ensures { λ _. ⌜ now (session .exit) ≡ bytesAfter (now (session .entry)) (Op.danger (loco number) (ticket under) location) ⌝ }
+    ensures { λ r. ⌜ r ≡ answerTo (now (session .entry)) (Op.on (loco number) (ticket under) (danger location)) ⌝ }
+    ensures { λ _. ⌜ now (session .exit) ≡ bytesAfter (now (session .entry)) (Op.on (loco number) (ticket under) (danger location)) ⌝ }
 {
-    operations::danger(session, Loco(number), Ticket(under), location)
+    on(session, number, under, Deed::Danger(location), b"")
 }
 
 // SOS between L2, named first, and L1.
@@ -105,10 +115,10 @@ pub extern "C" fn kb_sos(
 
 #[no_mangle]
 pub extern "C" fn kb_clear(session: &mut [u8], number: u32, under: u32, other: u32) -> Answer
-    ensures { λ r. ⌜ r ≡ answerTo (now (session .entry)) (Op.clear (loco number) (ticket under) (ticket other)) ⌝ }
-    ensures { λ _. ⌜ now (session .exit) ≡ bytesAfter (now (session .entry)) (Op.clear (loco number) (ticket under) (ticket other)) ⌝ }
+    ensures { λ r. ⌜ r ≡ answerTo (now (session .entry)) (Op.on (loco number) (ticket under) (clear (ticket other))) ⌝ }
+    ensures { λ _. ⌜ now (session .exit) ≡ bytesAfter (now (session .entry)) (Op.on (loco number) (ticket under) (clear (ticket other))) ⌝ }
 {
-    operations::clear(session, Loco(number), Ticket(under), Ticket(other))
+    on(session, number, under, Deed::Clear(Ticket(other)), b"")
 }
 
 #[no_mangle]

@@ -1,15 +1,17 @@
 // The questions that only read a lent session, under their names in C. Each refuses bytes of another length.
 use crate::told;
 use crate::told::TrainAnswer;
-use rulings::ruling::Answer;
+use rules::refusals;
+use rules::ruling::Answer;
 use session::questions;
-use session::refusals;
 use store::layout;
 use trains::kinds::Loco;
 use trains::kinds::Slot;
 use trains::kinds::Ticket;
 ghost use mathlib.Core.Path.{_≡_};
-ghost use Rattle.store.specs.View.{bookOf, counterOf, keptOf, isTaken};
+ghost use Rattle.rules.specs.Slots.{slotOf};
+ghost use Rattle.rules.specs.View.{isTaken};
+ghost use Rattle.store.specs.View.{bookOf, counterOf, keptOf};
 ghost use Rattle.session.specs.Answers.{endAnswerTo};
 ghost use Rattle.host.specs.Kinds.{loco, ticket};
 ghost use Rattle.host.specs.Told.{oneIf, numberAnswer, trainAnswer};
@@ -18,7 +20,7 @@ ghost use Rattle.host.specs.Told.{oneIf, numberAnswer, trainAnswer};
 fn tell(session: &[u8], number: u32) -> Answer
     ensures { λ r. ⌜ r ≡ numberAnswer (now (session .entry)) number ⌝ }
 {
-    if session.len() != layout::SESSION {
+    if !layout::is_session(session) {
         return Answer::refused(refusals::WRONG_LENGTH);
     }
     Answer::accepted(number, 0, 0)
@@ -33,9 +35,9 @@ fn one_if(holds: bool) -> u32
 // The ticket counter.
 #[no_mangle]
 pub extern "C" fn kb_counter(session: &[u8]) -> Answer
-    ensures { λ r. ⌜ r ≡ numberAnswer (now (session .entry)) (counterOf (now (session .entry))) ⌝ }
+    ensures { λ r. ⌜ r ≡ numberAnswer (now (session .entry)) (counterOf (now (session .entry)) .0) ⌝ }
 {
-    tell(session, questions::counter(session))
+    tell(session, questions::counter(session).0)
 }
 
 // The entries kept.
@@ -49,7 +51,7 @@ pub extern "C" fn kb_kept(session: &[u8]) -> Answer
 // 1 for a slot that is taken; one outside 1 to 44 is not.
 #[no_mangle]
 pub extern "C" fn kb_is_taken(session: &[u8], slot: u32) -> Answer
-    ensures { λ r. ⌜ r ≡ numberAnswer (now (session .entry)) (oneIf (isTaken (bookOf (now (session .entry))) slot)) ⌝ }
+    ensures { λ r. ⌜ r ≡ numberAnswer (now (session .entry)) (oneIf (isTaken (bookOf (now (session .entry))) (slotOf slot))) ⌝ }
 {
     tell(session, one_if(questions::is_taken(session, Slot(slot))))
 }
@@ -67,7 +69,7 @@ pub extern "C" fn kb_end(session: &[u8], number: u32, under: u32) -> Answer
 pub extern "C" fn kb_train(session: &[u8], row: u32) -> TrainAnswer
     ensures { λ r. ⌜ r ≡ trainAnswer (now (session .entry)) row ⌝ }
 {
-    if session.len() != layout::SESSION {
+    if !layout::is_session(session) {
         return TrainAnswer::refused(refusals::WRONG_LENGTH);
     }
     told::tell(questions::train(session, row))

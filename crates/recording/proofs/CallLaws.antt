@@ -4,7 +4,7 @@ use mathlib.Core.List.{List}
 use Prim.Native.Nat.{ℕ}
 use Rattle.replay.specs.Demand3.{Call, op, back}
 use Rattle.rules.specs.Rules.{Op}
-use Rattle.rulings.specs.declared.ruling.Answer.{Answer}
+use Rattle.rules.specs.declared.ruling.Answer.{Answer}
 use Rattle.session.specs.Answers.{answerTo, bytesAfter, backAnswer, backAfter}
 use Rattle.standing.specs.Standing.{answered, bytesLeft}
 

@@ -7,8 +7,8 @@ use lib.Dec.{ltb}
 use lib.ListN.{length}
 use Rattle.replay.specs.Demand3.{Call, op, back}
 use Rattle.rules.specs.Rules.{Op}
-use Rattle.rulings.specs.Ruling.{refusedWith}
-use Rattle.rulings.specs.declared.ruling.Answer.{Answer}
+use Rattle.rules.specs.Ruling.{refusedWith}
+use Rattle.rules.specs.declared.ruling.Answer.{Answer}
 use Rattle.session.proofs.AfterLaws.{refused-bytes, refused-back}
 use Rattle.standing.specs.Told.{answerBy}
 use Rattle.standing.proofs.ToldLaws.{told-refused, told-whole}

@@ -9,7 +9,8 @@ use Rattle.numbers.specs.Numbers.{numberAt}
 use Rattle.trains.specs.declared.kinds.Loco.{Loco}
 use Rattle.trains.specs.declared.kinds.Ticket.{Ticket}
 use Rattle.replay.specs.Demand3.{Call, op, back}
-use Rattle.rules.specs.Rules.{Op, request, release, flags, position, authority, danger, sos, clear}
+use Rattle.rules.specs.Deeds.{Deed, flags, position, authority, danger, clear}
+use Rattle.rules.specs.Rules.{Op, request, release, on, sos}
 
 -- the loco number at byte i of a payload
 abbrev pub locoAt : List ℕ → ℕ → Loco
@@ -38,17 +39,21 @@ infixl 70 kind_takes_makes_
 abbrev pub kind_takes_makes_ : ℕ → ℕ → (List ℕ → Call Op) → Kind
 kind n takes l makes c = record { number = n; takes = l; makes = c }
 
+-- a deed on the train whose loco and ticket the payload begins with
+abbrev pub does : (List ℕ → Deed) → List ℕ → Call Op
+does deed p = op (on (locoAt p 0) (ticketAt p 4) (deed p))
+
 -- THE TABLE. Kinds 2 to 8 begin with loco and ticket; an SOS names L2 first, then L1
 abbrev pub kinds : List Kind
 kinds =
     kind 1 takes 6 makes (λ p. op (request (locoAt p 0) (numberAt 2 p 4)))
     ∷ kind 2 takes 6 makes (λ p. op (release (locoAt p 0) (ticketAt p 4)))
-    ∷ kind 3 takes 97 makes (λ p. op (flags (locoAt p 0) (ticketAt p 4) (flagsIn p)))
-    ∷ kind 4 takes 14 makes (λ p. op (position (locoAt p 0) (ticketAt p 4) (locationAt p 6) (locationAt p 10)))
-    ∷ kind 5 takes 10 makes (λ p. op (authority (locoAt p 0) (ticketAt p 4) (locationAt p 6)))
-    ∷ kind 6 takes 10 makes (λ p. op (danger (locoAt p 0) (ticketAt p 4) (locationAt p 6)))
+    ∷ kind 3 takes 97 makes does (λ p. flags (flagsIn p))
+    ∷ kind 4 takes 14 makes does (λ p. position (locationAt p 6) (locationAt p 10))
+    ∷ kind 5 takes 10 makes does (λ p. authority (locationAt p 6))
+    ∷ kind 6 takes 10 makes does (λ p. danger (locationAt p 6))
     ∷ kind 7 takes 13 makes (λ p. op (sos (locoAt p 0) (ticketAt p 4) (locoAt p 6) (ticketAt p 10) (numberAt 1 p 12)))
-    ∷ kind 8 takes 8 makes (λ p. op (clear (locoAt p 0) (ticketAt p 4) (ticketAt p 6)))
+    ∷ kind 8 takes 8 makes does (λ p. clear (ticketAt p 6))
     ∷ kind 9 takes 2 makes (λ p. back (numberAt 2 p 0))
     ∷ []
 

@@ -3,8 +3,8 @@ use mathlib.Core.Bool.{Bool, cond, _&&_}
 use mathlib.Core.List.{List}
 use Prim.Native.Nat.{ℕ, _+_}
 use lib.Dec.{ltb}
-use Rattle.rulings.specs.Ruling.{refusedWith}
-use Rattle.rulings.specs.declared.ruling.Answer.{Answer}
+use Rattle.rules.specs.Ruling.{refusedWith}
+use Rattle.rules.specs.declared.ruling.Answer.{Answer}
 use Rattle.standing.specs.Standing.{answered, bytesLeft}
 use Rattle.recording.specs.Records.{kindOf, recordLength, isRecord, callOf}
 use Rattle.recording.specs.declared.running.Ran.{Ran}

@@ -1,10 +1,14 @@
 // The call that a payload makes on a lent session, by its kind.
 use crate::payloads;
-use rulings::ruling::Answer;
+use rules::deeds::Deed;
+use rules::ruling::Answer;
 use session::operations;
 ghost use mathlib.Core.Path.{_≡_};
+ghost use Rattle.replay.specs.Demand3.{op};
+ghost use Rattle.rules.specs.Deeds.{meant};
+ghost use Rattle.rules.specs.Rules.{Op};
 ghost use Rattle.standing.specs.Standing.{answered, bytesLeft};
-ghost use Rattle.recording.specs.Kinds.{callBy};
+ghost use Rattle.recording.specs.Kinds.{locoAt, ticketAt, flagsIn, callBy};
 
 fn request(session: &mut [u8], payload: &[u8]) -> Answer
     ensures { λ r. ⌜ r ≡ answered (now (session .entry)) (callBy 1 (now (payload .entry))) ⌝ }
@@ -28,44 +32,18 @@ fn release(session: &mut [u8], payload: &[u8]) -> Answer
     )
 }
 
-fn flags(session: &mut [u8], payload: &[u8]) -> Answer
-    ensures { λ r. ⌜ r ≡ answered (now (session .entry)) (callBy 3 (now (payload .entry))) ⌝ }
-    ensures { λ _. ⌜ now (session .exit) ≡ bytesLeft (now (session .entry)) (callBy 3 (now (payload .entry))) ⌝ }
+// A deed on the train whose loco and ticket the payload begins with.
+fn on(session: &mut [u8], payload: &[u8], deed: Deed) -> Answer
+    ensures { λ r.
+        ⌜ r ≡ answered (now (session .entry))
+        (op (Op.on (locoAt (now (payload .entry)) 0) (ticketAt (now (payload .entry)) 4) (meant deed (flagsIn (now (payload .entry)))))) ⌝ }
+    ensures { λ _.
+        ⌜ now (session .exit) ≡ bytesLeft (now (session .entry))
+        (op (Op.on (locoAt (now (payload .entry)) 0) (ticketAt (now (payload .entry)) 4) (meant deed (flagsIn (now (payload .entry)))))) ⌝ }
 {
     let loco = payloads::loco_at(payload, 0);
     let ticket = payloads::ticket_at(payload, 4);
-    operations::flags(session, loco, ticket, payloads::flags_in(payload))
-}
-
-fn position(session: &mut [u8], payload: &[u8]) -> Answer
-    ensures { λ r. ⌜ r ≡ answered (now (session .entry)) (callBy 4 (now (payload .entry))) ⌝ }
-    ensures { λ _. ⌜ now (session .exit) ≡ bytesLeft (now (session .entry)) (callBy 4 (now (payload .entry))) ⌝ }
-{
-    let loco = payloads::loco_at(payload, 0);
-    let ticket = payloads::ticket_at(payload, 4);
-    let front = numbers::word_at(payload, 6);
-    let rear = numbers::word_at(payload, 10);
-    operations::position(session, loco, ticket, front, rear)
-}
-
-fn authority(session: &mut [u8], payload: &[u8]) -> Answer
-    ensures { λ r. ⌜ r ≡ answered (now (session .entry)) (callBy 5 (now (payload .entry))) ⌝ }
-    ensures { λ _. ⌜ now (session .exit) ≡ bytesLeft (now (session .entry)) (callBy 5 (now (payload .entry))) ⌝ }
-{
-    let loco = payloads::loco_at(payload, 0);
-    let ticket = payloads::ticket_at(payload, 4);
-    let end = numbers::word_at(payload, 6);
-    operations::authority(session, loco, ticket, end)
-}
-
-fn danger(session: &mut [u8], payload: &[u8]) -> Answer
-    ensures { λ r. ⌜ r ≡ answered (now (session .entry)) (callBy 6 (now (payload .entry))) ⌝ }
-    ensures { λ _. ⌜ now (session .exit) ≡ bytesLeft (now (session .entry)) (callBy 6 (now (payload .entry))) ⌝ }
-{
-    let loco = payloads::loco_at(payload, 0);
-    let ticket = payloads::ticket_at(payload, 4);
-    let location = numbers::word_at(payload, 6);
-    operations::danger(session, loco, ticket, location)
+    operations::on(session, loco, ticket, deed, payloads::flags_in(payload))
 }
 
 // L2 is named first, then L1.
@@ -79,16 +57,6 @@ fn sos(session: &mut [u8], payload: &[u8]) -> Answer
     let ticket1 = payloads::ticket_at(payload, 10);
     let grid = numbers::byte_at(payload, 12);
     operations::sos(session, loco2, ticket2, loco1, ticket1, grid)
-}
-
-fn clear(session: &mut [u8], payload: &[u8]) -> Answer
-    ensures { λ r. ⌜ r ≡ answered (now (session .entry)) (callBy 8 (now (payload .entry))) ⌝ }
-    ensures { λ _. ⌜ now (session .exit) ≡ bytesLeft (now (session .entry)) (callBy 8 (now (payload .entry))) ⌝ }
-{
-    let loco = payloads::loco_at(payload, 0);
-    let ticket = payloads::ticket_at(payload, 4);
-    let other = payloads::ticket_at(payload, 6);
-    operations::clear(session, loco, ticket, other)
 }
 
 fn step_back(session: &mut [u8], payload: &[u8]) -> Answer
@@ -106,12 +74,16 @@ pub(crate) fn make(session: &mut [u8], kind: u32, payload: &[u8]) -> Answer
     match kind {
         1 => request(session, payload),
         2 => release(session, payload),
-        3 => flags(session, payload),
-        4 => position(session, payload),
-        5 => authority(session, payload),
-        6 => danger(session, payload),
+        3 => on(session, payload, Deed::Flags),
+        4 => {
+            let front = numbers::word_at(payload, 6);
+            let rear = numbers::word_at(payload, 10);
+            on(session, payload, Deed::Position(front, rear))
+        }
+        5 => on(session, payload, Deed::Authority(numbers::word_at(payload, 6))),
+        6 => on(session, payload, Deed::Danger(numbers::word_at(payload, 6))),
         7 => sos(session, payload),
-        8 => clear(session, payload),
+        8 => on(session, payload, Deed::Clear(payloads::ticket_at(payload, 6))),
         _ => step_back(session, payload),
     }
 }

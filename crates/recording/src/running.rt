@@ -1,7 +1,7 @@
 // One record run on a lent session.
 use crate::calls;
 use crate::records;
-use rulings::ruling::Answer;
+use rules::ruling::Answer;
 ghost use mathlib.Core.Path.{_≡_};
 ghost use Rattle.recording.specs.Records.{longest};
 ghost use Rattle.recording.specs.Running.{isRun, notRun, runWith, ranRecord, bytesAfterRecord};

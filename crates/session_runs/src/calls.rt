@@ -2,7 +2,8 @@
 // for the train in a row, 12 for the counter, the entries kept and the slots; 13 lets a loco request and release again and again.
 use crate::lines;
 use crate::parts;
-use rulings::ruling::Answer;
+use rules::deeds::Deed;
+use rules::ruling::Answer;
 use session::operations;
 use session::questions;
 use trains::kinds::Loco;
@@ -27,7 +28,17 @@ fn ticket(given: &[u8]) -> Ticket {
 // The bytes behind loco and ticket.
 fn flags(given: &[u8], session: &mut [u8]) -> Answer {
     let start = parts::at_most(8, given.len());
-    operations::flags(session, loco(given), ticket(given), &given[start..])
+    operations::on(
+        session,
+        loco(given),
+        ticket(given),
+        Deed::Flags,
+        &given[start..],
+    )
+}
+
+fn deed(session: &mut [u8], given: &[u8], deed: Deed) -> Answer {
+    operations::on(session, loco(given), ticket(given), deed, b"")
 }
 
 fn sos(given: &[u8], session: &mut [u8]) -> Answer {
@@ -69,11 +80,11 @@ fn on_train(kind: u32, given: &[u8], session: &mut [u8]) -> Answer {
     match kind {
         2 => operations::release(session, named, under),
         3 => flags(given, session),
-        4 => operations::position(session, named, under, said, number(given, 3)),
-        5 => operations::authority(session, named, under, said),
-        6 => operations::danger(session, named, under, said),
+        4 => deed(session, given, Deed::Position(said, number(given, 3))),
+        5 => deed(session, given, Deed::Authority(said)),
+        6 => deed(session, given, Deed::Danger(said)),
         7 => sos(given, session),
-        8 => operations::clear(session, named, under, Ticket(said)),
+        8 => deed(session, given, Deed::Clear(Ticket(said))),
         _ => questions::end(session, named, under),
     }
 }
@@ -98,7 +109,7 @@ fn row(given: &[u8], session: &[u8]) {
 }
 
 fn whole(session: &[u8]) {
-    lines::number(questions::counter(session));
+    lines::number(questions::counter(session).0);
     lines::number(questions::kept(session));
     lines::slots(session);
     lines::end_line();

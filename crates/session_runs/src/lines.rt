@@ -1,6 +1,6 @@
 // What is printed: a line's numbers, an answer, a train, the slots. A dash stands for what is missing.
 use libc::STDOUT_FILENO;
-use rulings::ruling::Answer;
+use rules::ruling::Answer;
 use session::questions;
 use trains::kinds::Slot;
 use trains::orders::ORDERS;

@@ -3,13 +3,14 @@ use mathlib.Core.List.{List, [], _∷_}
 use Prim.Native.Nat.{ℕ}
 use Rattle.replay.specs.Demand3.{Call, History}
 use Rattle.rules.specs.Rules.{Op}
-use Rattle.standing.specs.Told.{told}
+use Rattle.session.specs.Settings.{usual}
+use Rattle.standing.specs.Said.{said}
 use Rattle.standing.specs.Standing.{rules, answered, bytesLeft}
 
 -- the calls with their answers
-unfoldable pub history : List ℕ → List (Call Op) → History rules
+unfoldable pub history : List ℕ → List (Call Op) → History (rules usual)
 history bs [] = []
-history bs (c ∷ cs) = record { call = c; answer = told c (answered bs c) } ∷ history (bytesLeft bs c) cs
+history bs (c ∷ cs) = record { call = c; answer = said c (answered bs c) } ∷ history (bytesLeft bs c) cs
 
 -- the bytes after all of them
 unfoldable pub bytesAfterAll : List ℕ → List (Call Op) → List ℕ

@@ -1,4 +1,5 @@
-pub mod Told
+pub mod Said
 pub mod Standing
 pub mod Functions
 pub mod Calls
+pub mod Ordered
