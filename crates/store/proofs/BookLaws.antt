@@ -9,12 +9,14 @@ use native.Mathlib.Omega.{arith}
 use lib.Dec.{eqb}
 use lib.ListN.{length, getD, set, length-set}
 use lib.Seq.{sets, length-sets, getD-set-same, getD-set-other, ext-getD}
-use Rattle.trains.specs.Kinds.{lastSlot}
+use Rattle.trains.specs.Kinds.{lastSlot, slotInRange}
+use Rattle.trains.specs.declared.kinds.Slot.{Slot}
 use Rattle.trains.specs.Ranges.{oneTo}
 use Rattle.trains.proofs.RangeLaws.{one-to}
-use Rattle.store.specs.Effect.{slotMarked, marked}
-use Rattle.store.specs.Layout.{bookAt, rowsAt}
-use Rattle.store.specs.View.{bookOf, isTaken}
+use Rattle.rules.specs.Effect.{slotMarked, marked}
+use Rattle.store.specs.Layout.{bookAt, registerAt}
+use Rattle.rules.specs.View.{isTaken}
+use Rattle.store.specs.Stands.{bookOf}
 use Rattle.store.proofs.Stretches.{sets-out, sets-in, sets-like, stretch-at, length-stretch}
 
 -- ---- the book by itself
@@ -54,7 +56,7 @@ marked-suc book slot n mark = refl
 
 -- ---- the book in the bytes
 
-module _ (bs : List ℕ) (room : rowsAt ≤ length bs) where
+module _ (bs : List ℕ) (room : registerAt ≤ length bs) where
   pub length-book : length (bookOf bs) ≡ lastSlot
   length-book = length-stretch bs lastSlot bookAt room
 
@@ -105,14 +107,14 @@ module _ (bs : List ℕ) (room : rowsAt ≤ length bs) where
 -- ---- a slot that is taken
 
 -- one that is none of the book's is not
-pub not-in-book : (bs : List ℕ) (slot : ℕ) → oneTo lastSlot slot ≡ false → isTaken (bookOf bs) slot ≡ false
+pub not-in-book : (bs : List ℕ) (slot : Slot) → slotInRange slot ≡ false → isTaken (bookOf bs) slot ≡ false
 unfolding isTaken
 not-in-book bs slot e = rw e
 
 -- and one of the book's is, where its byte is not 0
-pub taken-by : (bs : List ℕ) (slot : ℕ) → oneTo lastSlot slot ≡ true
-    → not (eqb (getD bs (bookAt + (slot - 1)) 0) 0) ≡ isTaken (bookOf bs) slot
+pub taken-by : (bs : List ℕ) (slot : Slot) → slotInRange slot ≡ true
+    → not (eqb (getD bs (bookAt + (slot .0 - 1)) 0) 0) ≡ isTaken (bookOf bs) slot
 unfolding isTaken
 taken-by bs slot e =
-    let r : (1 ≤ slot) × (slot ≤ lastSlot) = one-to lastSlot slot e in
-    rw (e, stretch-at bs lastSlot bookAt (slot - 1) (omega arith))
+    let r : (1 ≤ slot .0) × (slot .0 ≤ lastSlot) = one-to lastSlot (slot .0) e in
+    rw (e, stretch-at bs lastSlot bookAt (slot .0 - 1) (omega arith))

@@ -9,13 +9,14 @@ use lib.Dec.{eqb}
 use lib.ListN.{length, getD, set, length-set}
 use lib.Seq.{getD-set-same, getD-set-other}
 use Rattle.numbers.proofs.FieldLaws.{lt-or-le}
-use Rattle.trains.specs.Kinds.{lastSlot}
+use Rattle.trains.specs.Kinds.{lastSlot, slotInRange}
+use Rattle.trains.specs.declared.kinds.Slot.{Slot}
 use Rattle.trains.specs.Ranges.{oneTo}
 use Rattle.trains.specs.Record.{blankTrain}
 use Rattle.trains.proofs.RangeLaws.{one-to}
-use Rattle.store.specs.declared.effect.Effect.{Effect}
-use Rattle.store.specs.Effect.{slotMarked, marked, applied}
-use Rattle.store.specs.View.{View, rowIn, isTaken}
+use Rattle.rules.specs.declared.effect.Effect.{Effect}
+use Rattle.rules.specs.Effect.{markFor, slotMarked, marked, applied}
+use Rattle.rules.specs.View.{View, rowIn, markOf, isTaken}
 use Rattle.store.proofs.BookLaws.{length-marked, length-slot-marked}
 
 -- ---- rows
@@ -23,35 +24,35 @@ use Rattle.store.proofs.BookLaws.{length-marked, length-slot-marked}
 -- as many rows as before
 pub applied-rows : (v : View) (e : Effect) → length (applied v e .rows) ≡ length (v .rows)
 unfolding applied
-applied-rows v e = length-set (set (v .rows) (e .one .row) (e .one .train)) (e .other .row) (e .other .train) ∙ length-set (v .rows) (e .one .row) (e .one .train)
+applied-rows v e = length-set (set (v .rows) (e .changed .row) (e .changed .train)) (e .also .row) (e .also .train) ∙ length-set (v .rows) (e .changed .row) (e .changed .train)
 
 -- the second change's row is its record
-pub applied-other : (v : View) (e : Effect) → e .other .row < length (v .rows) → rowIn (applied v e) (e .other .row) ≡ e .other .train
+pub applied-also : (v : View) (e : Effect) → e .also .row < length (v .rows) → rowIn (applied v e) (e .also .row) ≡ e .also .train
 unfolding applied
-applied-other v e h =
-    getD-set-same (set (v .rows) (e .one .row) (e .one .train)) (e .other .row) (e .other .train) blankTrain
-    (rw (length-set (v .rows) (e .one .row) (e .one .train)) h)
+applied-also v e h =
+    getD-set-same (set (v .rows) (e .changed .row) (e .changed .train)) (e .also .row) (e .also .train) blankTrain
+    (rw (length-set (v .rows) (e .changed .row) (e .changed .train)) h)
 
 -- and the first one's, where it is another row
-pub applied-one : (v : View) (e : Effect) → e .one .row < length (v .rows) → e .one .row ≢ e .other .row → rowIn (applied v e) (e .one .row) ≡ e .one .train
+pub applied-changed : (v : View) (e : Effect) → e .changed .row < length (v .rows) → e .changed .row ≢ e .also .row → rowIn (applied v e) (e .changed .row) ≡ e .changed .train
 unfolding applied
-applied-one v e h ne =
-    getD-set-other (set (v .rows) (e .one .row) (e .one .train)) (e .other .row) (e .one .row) (e .other .train) blankTrain ne
-    ∙ getD-set-same (v .rows) (e .one .row) (e .one .train) blankTrain h
+applied-changed v e h ne =
+    getD-set-other (set (v .rows) (e .changed .row) (e .changed .train)) (e .also .row) (e .changed .row) (e .also .train) blankTrain ne
+    ∙ getD-set-same (v .rows) (e .changed .row) (e .changed .train) blankTrain h
 
 -- every other row stays
-pub applied-row-stays : (v : View) (e : Effect) (j : ℕ) → j ≢ e .one .row → j ≢ e .other .row → rowIn (applied v e) j ≡ rowIn v j
+pub applied-row-stays : (v : View) (e : Effect) (j : ℕ) → j ≢ e .changed .row → j ≢ e .also .row → rowIn (applied v e) j ≡ rowIn v j
 unfolding applied
 applied-row-stays v e j n m =
-    getD-set-other (set (v .rows) (e .one .row) (e .one .train)) (e .other .row) j (e .other .train) blankTrain m
-    ∙ getD-set-other (v .rows) (e .one .row) j (e .one .train) blankTrain n
+    getD-set-other (set (v .rows) (e .changed .row) (e .changed .train)) (e .also .row) j (e .also .train) blankTrain m
+    ∙ getD-set-other (v .rows) (e .changed .row) j (e .changed .train) blankTrain n
 
 -- ---- the book
 
 -- as many slots as before
 pub applied-book : (v : View) (e : Effect) → length (applied v e .book) ≡ length (v .book)
 unfolding applied
-applied-book v e = length-marked (v .book) (e .start .0) (e .slots) (e .mark)
+applied-book v e = length-marked (v .book) (e .start .0) (e .slots) (markFor (e .taken))
 
 slot-stays : (book : List ℕ) (slot mark other : ℕ) → 1 ≤ other → other ≢ slot → getD (slotMarked book slot mark) (other - 1) 0 ≡ getD book (other - 1) 0
 unfolding slotMarked
@@ -73,14 +74,14 @@ marked-stays book slot (suc n) mark other h o =
     ∙ slot-stays book slot mark other h (λ e. ⊎-elim (λ a. omega arith) (λ a. omega arith) o)
 
 -- and is taken as before
-pub taken-stays : (book : List ℕ) (slot n mark other : ℕ) → (other < slot) ⊎ (slot + n ≤ other)
+pub taken-stays : (book : List ℕ) (slot n mark : ℕ) (other : Slot) → (other .0 < slot) ⊎ (slot + n ≤ other .0)
     → isTaken (marked book slot n mark) other ≡ isTaken book other
 unfolding isTaken
-taken-stays book slot n mark other o = by (oneTo lastSlot other) refl
+taken-stays book slot n mark other o = by (slotInRange other) refl
   where
-    by : (b : Bool) → oneTo lastSlot other ≡ b
-        → (b && not (eqb (getD (marked book slot n mark) (other - 1) 0) 0)) ≡ (b && not (eqb (getD book (other - 1) 0) 0))
-    by true e = ap (λ (x : ℕ). not (eqb x 0)) (marked-stays book slot n mark other (one-to lastSlot other e .0) o)
+    by : (b : Bool) → slotInRange other ≡ b
+        → (b && not (eqb (markOf (marked book slot n mark) other) 0)) ≡ (b && not (eqb (markOf book other) 0))
+    by true e = ap (λ (x : ℕ). not (eqb x 0)) (marked-stays book slot n mark (other .0) (one-to lastSlot (other .0) e .0) o)
     by false e = refl
 
 marked-here : (book : List ℕ) (slot mark : ℕ) → oneTo lastSlot slot ≡ true → lastSlot ≤ length book → getD (slotMarked book slot mark) (slot - 1) 0 ≡ mark

@@ -10,16 +10,16 @@ use lib.Seq.{ext-getD, getD-set-same, getD-set-other}
 use Rattle.numbers.specs.Numbers.{numberAt}
 use Rattle.numbers.proofs.FieldLaws.{Bytes, lt-or-le}
 use Rattle.numbers.proofs.NumberLaws.{number-past}
-use Rattle.rows.specs.Register.{rowCount}
+use Rattle.trains.specs.Sought.{rowCount}
 use Rattle.rows.proofs.Bytewise.{field-same, bit-of-byte}
 use Rattle.rows.proofs.RowLaws.{row-zeros}
 use Rattle.trains.specs.Kinds.{lastSlot}
-use Rattle.trains.specs.Record.{blankTrain}
+use Rattle.trains.specs.Record.{blankTrain, noTicket}
 use Rattle.trains.specs.declared.record.Train.{Train}
 use Rattle.store.specs.Emptied.{emptied}
-use Rattle.store.specs.Layout.{counterAt, keptAt, bookAt, rowPlace, sessionBytes}
-use Rattle.store.specs.View.{viewOf, bookOf, counterOf, keptOf}
-use Rattle.store.proofs.Frames.{Ready}
+use Rattle.store.specs.Layout.{wordBytes, counterAt, keptAt, bookAt, rowOffset, sessionBytes}
+use Rattle.store.specs.Stands.{viewOf, bookOf, counterOf, keptOf}
+use Rattle.store.specs.Lent.{Lent}
 use Rattle.store.proofs.RegisterLaws.{view-by}
 use Rattle.store.proofs.Stretches.{length-stretch, stretch-at}
 use Rattle.store.proofs.ViewLaws.{view-row, view-rows}
@@ -60,8 +60,8 @@ byte-emptied bs k =
 pub emptied-bytes : (bs : List ℕ) → Bytes (emptied bs)
 emptied-bytes bs k = rw (byte-emptied bs k) (omega arith)
 
-pub emptied-ready : (bs : List ℕ) → length bs ≡ sessionBytes → Ready (emptied bs)
-emptied-ready bs e = record { size = length-emptied bs ∙ e; bytes = emptied-bytes bs }
+pub emptied-lent : (bs : List ℕ) → length bs ≡ sessionBytes → Lent (emptied bs)
+emptied-lent bs e = record { size = length-emptied bs ∙ e; bytes = emptied-bytes bs }
 
 -- every number in it is 0
 pub emptied-number : (n : ℕ) (bs : List ℕ) (i : ℕ) → numberAt n (emptied bs) i ≡ 0
@@ -69,11 +69,11 @@ emptied-number n bs i =
     field-same (emptied bs) [] (8 * i) (8 * i) (8 * n) (λ q l. bit-of-byte (emptied bs) [] i i n (λ k m. byte-emptied bs (i + k)) q l)
     ∙ number-past n [] i (omega arith)
 
-pub emptied-counter : (bs : List ℕ) → counterOf (emptied bs) ≡ 0
-emptied-counter bs = emptied-number 4 bs counterAt
+pub emptied-counter : (bs : List ℕ) → counterOf (emptied bs) ≡ noTicket
+emptied-counter bs = λ i. record { 0 = emptied-number wordBytes bs counterAt i }
 
 pub emptied-kept : (bs : List ℕ) → keptOf (emptied bs) ≡ 0
-emptied-kept bs = omega (arith, emptied-number 4 bs keptAt)
+emptied-kept bs = omega (arith, emptied-number wordBytes bs keptAt)
 
 emptied-rows : (bs : List ℕ) → viewOf (emptied bs) .rows ≡ replicate rowCount blankTrain
 emptied-rows bs =
@@ -82,7 +82,7 @@ emptied-rows bs =
     (λ k l.
     let m : k < rowCount = omega (arith, view-rows (emptied bs)) in
     view-row (emptied bs) k m
-    ∙ row-zeros (emptied bs) (rowPlace k) (λ i q. byte-emptied bs (rowPlace k + i))
+    ∙ row-zeros (emptied bs) (rowOffset k) (λ i q. byte-emptied bs (rowOffset k + i))
     ∙ sym (getD-replicate {A = Train} rowCount k blankTrain blankTrain m))
 
 emptied-book : (bs : List ℕ) → length bs ≡ sessionBytes → bookOf (emptied bs) ≡ replicate lastSlot 0

@@ -14,8 +14,8 @@ use Rattle.rows.proofs.RowLaws.{row-same, length-put-row, bytes-put-row, byte-a
 use Rattle.trains.specs.declared.record.Train.{Train}
 use Rattle.trains.specs.Kinds.{lastSlot}
 use Rattle.trains.specs.Ranges.{oneTo}
-use Rattle.store.specs.Effect.{slotMarked, marked}
-use Rattle.store.specs.Layout.{sessionBytes}
+use Rattle.rules.specs.Effect.{slotMarked, marked}
+use Rattle.store.specs.Lent.{Lent}
 use Rattle.store.proofs.Stretches.{Outside, stretch-same, bytes-set}
 
 -- m bytes at i and n bytes at `at` have none in common
@@ -89,10 +89,5 @@ bytes-marked book slot (suc n) mark h m = bytes-marked (slotMarked book slot mar
 
 -- ---- sessions
 
--- bytes of a session: as many as it has, and each of them a byte
-pub record Ready (bs : List ℕ) : Type 0 where
-  pub size : length bs ≡ sessionBytes
-  pub bytes : Bytes bs
-
-pub ready-after : {s t : List ℕ} {at n : ℕ} → Ready s → Changes s t at n → Ready t
-ready-after r c = record { size = c .size ∙ r .size; bytes = c .bytes }
+pub lent-after : {s t : List ℕ} {at n : ℕ} → Lent s → Changes s t at n → Lent t
+lent-after r c = record { size = c .size ∙ r .size; bytes = c .bytes }

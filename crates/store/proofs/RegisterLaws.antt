@@ -8,13 +8,14 @@ use native.Mathlib.Omega.{arith}
 use lib.ListN.{length, getD, set, length-set}
 use lib.Seq.{ext-getD, getD-set-same, getD-set-other}
 use Rattle.numbers.proofs.FieldLaws.{lt-or-le}
-use Rattle.rows.specs.Register.{rowCount, rowOf}
+use Rattle.rows.specs.Register.{rowOf}
+use Rattle.trains.specs.Sought.{rowCount}
 use Rattle.rows.specs.Row.{rowBytes}
 use Rattle.trains.specs.Kinds.{lastSlot}
 use Rattle.trains.specs.Record.{blankTrain}
 use Rattle.trains.specs.declared.record.Train.{Train}
-use Rattle.store.specs.Layout.{bookAt, rowsAt, rowPlace}
-use Rattle.store.specs.View.{viewOf, bookOf}
+use Rattle.store.specs.Layout.{bookAt, registerAt, rowOffset}
+use Rattle.store.specs.Stands.{viewOf, bookOf}
 use Rattle.store.proofs.Frames.{Clear, Changes, row-stays, stretch-stays}
 use Rattle.store.proofs.ViewLaws.{view-row, view-rows}
 
@@ -30,7 +31,7 @@ unfolding viewOf
 view-book bs = refl
 
 -- the same rows in the bytes are the same rows of the view
-pub rows-same : (s t : List ℕ) → ((j : ℕ) → j < rowCount → rowOf t rowsAt j ≡ rowOf s rowsAt j) → viewOf t .rows ≡ viewOf s .rows
+pub rows-same : (s t : List ℕ) → ((j : ℕ) → j < rowCount → rowOf t registerAt j ≡ rowOf s registerAt j) → viewOf t .rows ≡ viewOf s .rows
 rows-same s t h =
     ext-getD blankTrain (viewOf t .rows) (viewOf s .rows) (view-rows t ∙ sym (view-rows s))
     (λ k l.
@@ -38,8 +39,8 @@ rows-same s t h =
     view-row t k m ∙ h k m ∙ sym (view-row s k m))
 
 -- one row is another, and the rest are the same
-pub rows-set : (s t : List ℕ) (r : ℕ) (x : Train) → r < rowCount → rowOf t rowsAt r ≡ x
-    → ((j : ℕ) → j < rowCount → j ≢ r → rowOf t rowsAt j ≡ rowOf s rowsAt j) → viewOf t .rows ≡ set (viewOf s .rows) r x
+pub rows-set : (s t : List ℕ) (r : ℕ) (x : Train) → r < rowCount → rowOf t registerAt r ≡ x
+    → ((j : ℕ) → j < rowCount → j ≢ r → rowOf t registerAt j ≡ rowOf s registerAt j) → viewOf t .rows ≡ set (viewOf s .rows) r x
 rows-set s t r x h e rest =
     ext-getD blankTrain (viewOf t .rows) (set (viewOf s .rows) r x) (view-rows t ∙ sym (length-set (viewOf s .rows) r x ∙ view-rows s))
     (λ k l. at k (omega (arith, view-rows t)) (ℕ-discrete k r))
@@ -51,28 +52,28 @@ rows-set s t r x h e rest =
 
 module _ {s t : List ℕ} {at n : ℕ} (r : Changes s t at n) where
   -- a change outside the register leaves its rows
-  pub rows-stay : Clear rowsAt (rowBytes * rowCount) at n → viewOf t .rows ≡ viewOf s .rows
-  rows-stay h = rows-same s t (λ j l. row-stays r (rowPlace j) (⊎-elim (λ a. inl (omega arith)) (λ a. inr (omega arith)) h))
+  pub rows-stay : Clear registerAt (rowBytes * rowCount) at n → viewOf t .rows ≡ viewOf s .rows
+  rows-stay h = rows-same s t (λ j l. row-stays r (rowOffset j) (⊎-elim (λ a. inl (omega arith)) (λ a. inr (omega arith)) h))
 
   -- and one outside the book leaves the book
-  pub book-stays : rowsAt ≤ length s → Clear bookAt lastSlot at n → bookOf t ≡ bookOf s
+  pub book-stays : registerAt ≤ length s → Clear bookAt lastSlot at n → bookOf t ≡ bookOf s
   book-stays room h = stretch-stays r bookAt lastSlot room h
 
   -- one outside both leaves the view
-  pub view-stays : rowsAt ≤ length s → Clear bookAt (lastSlot + rowBytes * rowCount) at n → viewOf t ≡ viewOf s
+  pub view-stays : registerAt ≤ length s → Clear bookAt (lastSlot + rowBytes * rowCount) at n → viewOf t ≡ viewOf s
   view-stays room h =
       view-by t (viewOf s .rows) (viewOf s .book)
       (rows-stay (⊎-elim (λ a. inl (omega arith)) (λ a. inr (omega arith)) h))
       (book-stays room (⊎-elim (λ a. inl (omega arith)) (λ a. inr (omega arith)) h) ∙ sym (view-book s))
 
 -- a change of one row's bytes is a change of that row
-pub row-changed : {s t : List ℕ} (i : ℕ) (x : Train) → Changes s t (rowPlace i) rowBytes → rowsAt ≤ length s → i < rowCount → rowOf t rowsAt i ≡ x
+pub row-changed : {s t : List ℕ} (i : ℕ) (x : Train) → Changes s t (rowOffset i) rowBytes → registerAt ≤ length s → i < rowCount → rowOf t registerAt i ≡ x
     → viewOf t ≡ record { rows = set (viewOf s .rows) i x; book = viewOf s .book }
 row-changed {s} {t} i x r room h e =
     view-by t (set (viewOf s .rows) i x) (viewOf s .book)
-    (rows-set s t i x h e (λ j l ne. row-stays r (rowPlace j) (side j ne (lt-or-le j i))))
+    (rows-set s t i x h e (λ j l ne. row-stays r (rowOffset j) (side j ne (lt-or-le j i))))
     (book-stays r room (inl (omega arith)) ∙ sym (view-book s))
   where
-    side : (j : ℕ) → j ≢ i → (j < i) ⊎ (i ≤ j) → Clear (rowPlace j) rowBytes (rowPlace i) rowBytes
+    side : (j : ℕ) → j ≢ i → (j < i) ⊎ (i ≤ j) → Clear (rowOffset j) rowBytes (rowOffset i) rowBytes
     side j ne (inl a) = inl (omega arith)
     side j ne (inr a) = let b : i < j = ⊎-elim (λ l. l) (λ l. absurd (ne (omega arith))) (lt-or-le i j) in inr (omega arith)

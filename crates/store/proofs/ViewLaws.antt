@@ -6,8 +6,9 @@ use mathlib.Core.Path.{_≡_, refl, sym, ap, _∙_, subst}
 use native.Mathlib.Omega.{arith}
 use lib.ListN.{length, getD, List·getD-eq-default}
 use Rattle.replay.specs.Demand3.{depth}
-use Rattle.rows.specs.declared.register.Sought.{Sought}
-use Rattle.rows.specs.Register.{rowCount, rowOf, isSought, soughtAt, foundIn}
+use Rattle.trains.specs.declared.sought.Sought.{Sought}
+use Rattle.rows.specs.Register.{rowOf, soughtAt, foundIn}
+use Rattle.trains.specs.Sought.{rowCount, isSought}
 use Rattle.rows.specs.Row.{rowBytes}
 use Rattle.rows.proofs.FitLaws.{Fits, fits-read}
 use Rattle.trains.specs.declared.found.Found.{Found}
@@ -15,24 +16,25 @@ use Rattle.trains.specs.declared.found.Found.the-variants.{Nothing, Index}
 use Rattle.trains.specs.Found.{first}
 use Rattle.trains.specs.Record.{blankTrain}
 use Rattle.trains.proofs.FoundLaws.{Before, first-below, first-true, first-before}
-use Rattle.store.specs.Layout.{rowsAt, entryBytes, entryPlace, sessionBytes}
-use Rattle.store.specs.View.{View, rowsFrom, viewOf, keptOf, headOf, rowIn, soughtIn, findIn}
+use Rattle.store.specs.Layout.{registerAt, entryBytes, entryOffset, sessionBytes}
+use Rattle.rules.specs.View.{View, rowIn, soughtIn, findIn}
+use Rattle.store.specs.Stands.{rowsFrom, viewOf, keptOf, headOf}
 
 pub length-rows : (bs : List ℕ) (i n : ℕ) → length (rowsFrom bs i n) ≡ n
 unfolding rowsFrom
 length-rows bs i zero = refl
 length-rows bs i (suc n) = ap suc (length-rows bs (suc i) n)
 
-pub rows-at : (bs : List ℕ) (i n k : ℕ) → k < n → getD (rowsFrom bs i n) k blankTrain ≡ rowOf bs rowsAt (i + k)
+pub rows-at : (bs : List ℕ) (i n k : ℕ) → k < n → getD (rowsFrom bs i n) k blankTrain ≡ rowOf bs registerAt (i + k)
 unfolding rowsFrom
 rows-at bs i zero k h = absurd (omega arith)
-rows-at bs i (suc n) zero h = ap (λ (j : ℕ). rowOf bs rowsAt j) (omega arith)
-rows-at bs i (suc n) (suc k) h = rows-at bs (suc i) n k (omega arith) ∙ ap (λ (j : ℕ). rowOf bs rowsAt j) (omega arith)
+rows-at bs i (suc n) zero h = ap (λ (j : ℕ). rowOf bs registerAt j) (omega arith)
+rows-at bs i (suc n) (suc k) h = rows-at bs (suc i) n k (omega arith) ∙ ap (λ (j : ℕ). rowOf bs registerAt j) (omega arith)
 
 -- row i of the view is row i of the register
-pub view-row : (bs : List ℕ) (i : ℕ) → i < rowCount → rowIn (viewOf bs) i ≡ rowOf bs rowsAt i
+pub view-row : (bs : List ℕ) (i : ℕ) → i < rowCount → rowIn (viewOf bs) i ≡ rowOf bs registerAt i
 unfolding viewOf
-view-row bs i h = rows-at bs 0 rowCount i h ∙ ap (λ (j : ℕ). rowOf bs rowsAt j) (omega arith)
+view-row bs i h = rows-at bs 0 rowCount i h ∙ ap (λ (j : ℕ). rowOf bs registerAt j) (omega arith)
 
 -- and any other is blank
 pub view-row-past : (bs : List ℕ) (i : ℕ) → rowCount ≤ i → rowIn (viewOf bs) i ≡ blankTrain
@@ -46,7 +48,7 @@ view-rows bs = length-rows bs 0 rowCount
 
 -- whose trains fit a row of bytes
 pub view-fits : (bs : List ℕ) (i : ℕ) → i < rowCount → Fits (rowIn (viewOf bs) i)
-view-fits bs i h = rw (view-row bs i h) (fits-read bs (rowsAt + rowBytes * i))
+view-fits bs i h = rw (view-row bs i h) (fits-read bs (registerAt + rowBytes * i))
 
 first-same : (p q : ℕ → Bool) (i n : ℕ) → ((k : ℕ) → i ≤ k → k < i + n → p k ≡ q k) → first p i n ≡ first q i n
 unfolding first
@@ -55,10 +57,10 @@ first-same p q i (suc n) h =
     λ j. cond (h i (omega arith) (omega arith) j) (Index i) (first-same p q (suc i) n (λ k l u. h k (omega arith) (omega arith)) j)
 
 -- a search of the view is the search of the register
-pub find-in : (bs : List ℕ) (sought : Sought) → findIn (viewOf bs) sought ≡ foundIn bs rowsAt sought
+pub find-in : (bs : List ℕ) (sought : Sought) → findIn (viewOf bs) sought ≡ foundIn bs registerAt sought
 unfolding findIn foundIn soughtIn soughtAt
 find-in bs sought =
-    first-same (soughtIn (viewOf bs) sought) (soughtAt bs rowsAt sought) 0 rowCount
+    first-same (soughtIn (viewOf bs) sought) (soughtAt bs registerAt sought) 0 rowCount
     (λ k l u. ap (isSought sought) (view-row bs k (omega arith)))
 
 module _ (v : View) (sought : Sought) where
@@ -80,7 +82,7 @@ module _ (v : View) (sought : Sought) where
 
 -- ---- the ring
 
--- the head is one of the ring's places
+-- the head is one of the ring's notches
 pub head-in : (bs : List ℕ) → headOf bs < depth
 unfolding depth
 head-in bs = omega arith
@@ -90,11 +92,6 @@ pub kept-in : (bs : List ℕ) → keptOf bs ≤ depth
 unfolding depth
 kept-in bs = omega arith
 
--- the session ends with the last of them
-pub session-end : sessionBytes ≡ entryPlace depth
-unfolding depth
-session-end = refl
-
--- so each has its entry in the bytes
-pub entry-room : (p : ℕ) → p < depth → entryPlace p + entryBytes ≤ sessionBytes
-entry-room p h = omega (arith, session-end)
+-- each notch has its entry in the bytes
+pub entry-room : (p : ℕ) → p < depth → entryOffset p + entryBytes ≤ sessionBytes
+entry-room p h = omega arith

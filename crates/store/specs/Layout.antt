@@ -1,13 +1,20 @@
--- Where everything stands in a session's bytes: the ticket counter, the entries kept and the place that the next entry goes to, 4 bytes each;
--- the slot book, a byte for each slot; the register; and the log's ring of entries.
+-- Where everything stands in a session's bytes: the ticket counter, the entries kept and the notch that the next entry goes to, 4 bytes each;
+-- the slot book, a byte for each slot; the register; and the log's ring, whose notches hold an entry each.
 use mathlib.Core.Bool.{Bool}
 use mathlib.Core.List.{List}
 use Prim.Native.Nat.{ℕ, _+_, _*_}
 use lib.Dec.{eqb}
 use lib.ListN.{length}
-use Rattle.rows.specs.Register.{rowCount}
+use Rattle.replay.specs.Demand3.{depth}
 use Rattle.rows.specs.Row.{rowBytes}
 use Rattle.trains.specs.Kinds.{lastSlot}
+use Rattle.trains.specs.Sought.{rowCount}
+
+-- ---- the header, the book and the register
+
+-- the bytes of a number of the header
+abbrev pub wordBytes : ℕ
+wordBytes = 4
 
 -- the ticket counter
 abbrev pub counterAt : ℕ
@@ -15,51 +22,67 @@ counterAt = 0
 
 -- the number of entries kept
 abbrev pub keptAt : ℕ
-keptAt = 4
+keptAt = counterAt + wordBytes
 
--- the place of the ring that the next entry goes to
+-- the notch of the ring that the next entry goes to
 abbrev pub headAt : ℕ
-headAt = 8
+headAt = keptAt + wordBytes
 
 -- the slot book
 abbrev pub bookAt : ℕ
-bookAt = 12
+bookAt = headAt + wordBytes
 
 -- the register
-abbrev pub rowsAt : ℕ
-rowsAt = bookAt + lastSlot
-
--- the log
-abbrev pub logAt : ℕ
-logAt = rowsAt + rowBytes * rowCount
+abbrev pub registerAt : ℕ
+registerAt = bookAt + lastSlot
 
 -- row i of the register, counted from 0
-abbrev pub rowPlace : ℕ → ℕ
-rowPlace i = rowsAt + rowBytes * i
+abbrev pub rowOffset : ℕ → ℕ
+rowOffset i = registerAt + rowBytes * i
+
+-- the log, behind the last row
+abbrev pub logAt : ℕ
+logAt = rowOffset rowCount
+
+-- ---- an entry of the log
+
+-- the run of slots that was marked: its start, its slots, and its mark before, a byte each
+abbrev pub runBytes : ℕ
+runBytes = 3
 
 -- a row's number and that row, as an entry keeps them
 abbrev pub keptRowBytes : ℕ
 keptRowBytes = 1 + rowBytes
 
--- an entry keeps the book and two rows
+-- the run, the row that changed, and a second row
 abbrev pub entryBytes : ℕ
-entryBytes = lastSlot + 2 * keptRowBytes
+entryBytes = runBytes + keptRowBytes + keptRowBytes
 
--- the entry at a place of the ring
-abbrev pub entryPlace : ℕ → ℕ
-entryPlace p = logAt + entryBytes * p
+-- the entry in a notch of the ring
+abbrev pub entryOffset : ℕ → ℕ
+entryOffset notch = logAt + entryBytes * notch
 
--- where an entry that starts at e keeps its first row's number
-abbrev pub oneAt : ℕ → ℕ
-oneAt e = e + lastSlot
+-- where the entry that starts at e keeps how many slots its run has; the run's start is its first byte
+abbrev pub slotsAt : ℕ → ℕ
+slotsAt e = e + 1
 
--- and its second row's
-abbrev pub otherAt : ℕ → ℕ
-otherAt e = oneAt e + keptRowBytes
+-- the run's mark before
+abbrev pub markAt : ℕ → ℕ
+markAt e = e + 2
 
--- the bytes of a session: the ring has 128 entries, the log's depth
+-- the number of the row that changed; the row stands behind its number
+abbrev pub changedAt : ℕ → ℕ
+changedAt e = e + runBytes
+
+-- the number of the second row
+abbrev pub alsoAt : ℕ → ℕ
+alsoAt e = changedAt e + keptRowBytes
+
+-- ---- the session
+
+-- the bytes of a session: the ring has as many notches as the log is deep
 abbrev pub sessionBytes : ℕ
-sessionBytes = entryPlace 128
+sessionBytes = entryOffset depth
 
 -- the bytes are as many as a session has
 abbrev pub isSession : List ℕ → Bool

@@ -1,4 +1,5 @@
 pub mod Layout
-pub mod View
-pub mod Effect
+pub mod Stands
+pub mod Lent
+pub mod Tidy
 pub mod Emptied

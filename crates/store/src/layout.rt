@@ -1,23 +1,42 @@
-// Where everything but the log stands in a session's bytes; the log, which is `ledger`'s, takes what is left.
+// Where everything stands in a session's bytes. Each offset is worked out from the one before it, and so is the session's size.
 use rows::row;
+use trains::kinds::LAST_SLOT;
+use trains::sought;
 ghost use mathlib.Core.Path.{_≡_};
-ghost use Rattle.store.specs.Layout.{isSession, rowPlace};
-
-// The bytes of a session.
-pub const SESSION: usize = 24704;
+ghost use Rattle.store.specs.Layout.{isSession, rowOffset};
 
 // The header: three numbers of 4 bytes.
+const WORD: usize = 4;
+
 pub const COUNTER: usize = 0;
 
-pub const KEPT: usize = 4;
+pub const KEPT: usize = COUNTER + WORD;
 
-pub const HEAD: usize = 8;
+pub const HEAD: usize = KEPT + WORD;
 
 // The slot book, a byte for each slot.
-pub const BOOK: usize = 12;
+pub const BOOK: usize = HEAD + WORD;
 
 // The register.
-pub const ROWS: usize = 56;
+pub const REGISTER: usize = BOOK + LAST_SLOT as usize;
+
+// The log's ring, behind the register.
+pub const LOG: usize = REGISTER + row::ROW * sought::ROWS;
+
+// Where an entry, counted from its start, keeps its run (start, slots, mark before) and its two rows, each behind its number.
+pub const RUN_SLOTS: usize = 1;
+
+pub const RUN_MARK: usize = RUN_SLOTS + 1;
+
+pub const CHANGED: usize = RUN_MARK + 1;
+
+pub const ALSO: usize = CHANGED + 1 + row::ROW;
+
+// The bytes of an entry.
+pub const ENTRY: usize = ALSO + 1 + row::ROW;
+
+// The bytes of a session.
+pub const SESSION: usize = LOG + ENTRY * replay::DEPTH;
 
 // Are there as many bytes as a session has?
 pub fn is_session(s: &[u8]) -> bool
@@ -27,8 +46,8 @@ pub fn is_session(s: &[u8]) -> bool
 }
 
 // Row i of the register, counted from 0.
-pub fn row_place(i: u32) -> usize
-    ensures { λ r. ⌜ r ≡ rowPlace i ⌝ }
+pub fn row_offset(i: u32) -> usize
+    ensures { λ r. ⌜ r ≡ rowOffset i ⌝ }
 {
-    ROWS + row::ROW * (i as usize)
+    REGISTER + row::ROW * (i as usize)
 }

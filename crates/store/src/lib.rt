@@ -1,5 +1,4 @@
-// The lent bytes of a session: their layout, what any bytes stand for, and what an effect does to that.
-pub mod effect;
+// The lent bytes of a session: their layout, what any bytes stand for, and the empty session.
 pub mod emptied;
 pub mod layout;
 pub mod view;

@@ -8,18 +8,20 @@ use trains::kinds::Loco;
 use trains::kinds::Slot;
 use trains::kinds::Ticket;
 use trains::record::Train;
+use trains::sought::ROWS;
 ghost use mathlib.Core.Path.{_≡_};
-ghost use Rattle.rows.specs.declared.register.Sought.the-variants.{Pair, Number, Empty};
-ghost use Rattle.store.specs.View.{viewOf, bookOf, counterOf, keptOf, headOf, rowIn, isTaken, findIn};
+ghost use Rattle.rules.specs.View.{rowIn, isTaken, findIn};
+ghost use Rattle.trains.specs.declared.sought.Sought.the-variants.{Pair, Number, Empty};
+ghost use Rattle.store.specs.Stands.{viewOf, bookOf, counterOf, keptOf, headOf};
 
 // The ticket counter.
-pub fn counter(s: &[u8]) -> u32
+pub fn counter(s: &[u8]) -> Ticket
     ensures { λ r. ⌜ r ≡ counterOf (now (s .entry)) ⌝ }
 {
-    numbers::word_at(s, layout::COUNTER)
+    Ticket(numbers::word_at(s, layout::COUNTER))
 }
 
-// The entries kept: never more than the ring has.
+// The entries kept: never more than the ring has notches.
 pub fn kept(s: &[u8]) -> usize
     ensures { λ r. ⌜ r ≡ keptOf (now (s .entry)) ⌝ }
 {
@@ -27,7 +29,7 @@ pub fn kept(s: &[u8]) -> usize
     if n < replay::DEPTH { n } else { replay::DEPTH }
 }
 
-// The place of the ring that the next entry goes to.
+// The notch of the ring that the next entry goes to.
 pub fn head(s: &[u8]) -> usize
     ensures { λ r. ⌜ r ≡ headOf (now (s .entry)) ⌝ }
 {
@@ -38,8 +40,8 @@ pub fn head(s: &[u8]) -> usize
 pub fn train(s: &[u8], i: usize) -> Train
     ensures { λ r. ⌜ r ≡ rowIn (viewOf (now (s .entry))) i ⌝ }
 {
-    if i < register::ROWS {
-        row::row_at(s, layout::row_place(i as u32))
+    if i < ROWS {
+        row::row_at(s, layout::row_offset(i as u32))
     } else {
         Train::blank()
     }
@@ -49,26 +51,26 @@ pub fn train(s: &[u8], i: usize) -> Train
 pub fn find(s: &[u8], loco: Loco, ticket: Ticket) -> Found
     ensures { λ r. ⌜ r ≡ findIn (viewOf (now (s .entry))) (Pair loco ticket) ⌝ }
 {
-    register::find(s, layout::ROWS, loco, ticket)
+    register::find(s, layout::REGISTER, loco, ticket)
 }
 
 // The first row with a loco number.
 pub fn find_loco(s: &[u8], loco: Loco) -> Found
     ensures { λ r. ⌜ r ≡ findIn (viewOf (now (s .entry))) (Number loco) ⌝ }
 {
-    register::find_loco(s, layout::ROWS, loco)
+    register::find_loco(s, layout::REGISTER, loco)
 }
 
 // The first empty row.
 pub fn find_empty(s: &[u8]) -> Found
     ensures { λ r. ⌜ r ≡ findIn (viewOf (now (s .entry))) Empty ⌝ }
 {
-    register::find_empty(s, layout::ROWS)
+    register::find_empty(s, layout::REGISTER)
 }
 
 // Is a slot taken? One that is none of the book's is not.
 pub fn is_taken(s: &[u8], slot: Slot) -> bool
-    ensures { λ r. ⌜ r ≡ isTaken (bookOf (now (s .entry))) (slot .0) ⌝ }
+    ensures { λ r. ⌜ r ≡ isTaken (bookOf (now (s .entry))) slot ⌝ }
 {
     if !slot.in_range() {
         return false;

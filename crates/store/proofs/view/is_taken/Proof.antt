@@ -17,7 +17,7 @@ use Rattle.store.proofs.view.is_taken.Tie as tie
 returns : tie.Need-returns
 returns c =
     let a = c .before .before .before .args in
-    sym (not-in-book (a .s .now) (a .slot .0) (sym (c .before .in-range .ensures) ∙ not-true (c .before .in-range .result) (c .if1 .taken)))
+    sym (not-in-book (a .s .now) (a .slot) (sym (c .before .in-range .ensures) ∙ not-true (c .before .in-range .result) (c .if1 .taken)))
 
 sub-byte-at : tie.Need-sub-byte-at
 sub-byte-at c = omega (arith, one-to lastSlot (c .before .before .before .before .args .slot .0) (sym (c .before .before .in-range .ensures) ∙ not-false (c .before .before .in-range .result) (c .before .if1 .left)))
@@ -27,7 +27,7 @@ returns-2 c =
     let a = c .before .before .before .before .before .args in
     let at : ℕ = bookAt + (a .slot .0 - 1) in
     ap (λ (x : ℕ). not (eqb x 0)) (c .byte-at .ensures ∙ number-byte (a .s .now) at (omega (arith, c .before .before .before .before .shared-slice-known .given at)))
-    ∙ taken-by (a .s .now) (a .slot .0) (sym (c .before .before .before .in-range .ensures) ∙ not-false (c .before .before .before .in-range .result) (c .before .before .if1 .left))
+    ∙ taken-by (a .s .now) (a .slot) (sym (c .before .before .before .in-range .ensures) ∙ not-false (c .before .before .before .in-range .result) (c .before .before .if1 .left))
 
 pub is-taken-spec : {M : Type 1} → statement M
 is-taken-spec =

@@ -11,7 +11,7 @@ returns : tie.Need-returns
 returns c =
     let a = c .before .before .before .before .args in
     c .row-at .ensures
-    ∙ ap (λ (p : ℕ). rowAt (a .s .now) p) (c .before .row-place .ensures)
+    ∙ ap (λ (p : ℕ). rowAt (a .s .now) p) (c .before .row-offset .ensures)
     ∙ sym (view-row (a .s .now) (a .i) (c .before .before .if1 .taken))
 
 returns-2 : tie.Need-returns-2
