@@ -11,7 +11,7 @@ use trains::kinds::Ticket;
 ghost use mathlib.Core.Path.{_≡_};
 ghost use Rattle.rules.specs.Slots.{slotOf};
 ghost use Rattle.rules.specs.View.{isTaken};
-ghost use Rattle.store.specs.View.{bookOf, counterOf, keptOf};
+ghost use Rattle.store.specs.Stands.{bookOf, counterOf, keptOf};
 ghost use Rattle.session.specs.Answers.{endAnswerTo};
 ghost use Rattle.host.specs.Kinds.{loco, ticket};
 ghost use Rattle.host.specs.Told.{oneIf, numberAnswer, trainAnswer};

@@ -10,7 +10,7 @@ use Rattle.rules.specs.Rules.{Op, rule}
 use Rattle.rules.specs.declared.ruling.Answer.{Answer}
 use Rattle.rules.specs.declared.ruling.Ruling.{Ruling}
 use Rattle.rules.specs.declared.settings.Settings.{Settings}
-use Rattle.store.specs.View.{viewOf, counterOf}
+use Rattle.store.specs.Stands.{viewOf, counterOf}
 
 -- what the rules say of an operation on the lent bytes; a request would take the next ticket
 unfoldable pub judged : Settings → List ℕ → Op → Ruling

@@ -6,7 +6,7 @@ use trains::kinds::Loco;
 use trains::kinds::Ticket;
 ghost use mathlib.Core.Path.{_≡_};
 ghost use Rattle.rules.specs.Named.{namedIn};
-ghost use Rattle.store.specs.View.{viewOf};
+ghost use Rattle.store.specs.Stands.{viewOf};
 
 pub(crate) fn find(s: &[u8], loco: Loco, ticket: Ticket) -> Named
     ensures { λ r. ⌜ r ≡ namedIn loco ticket (viewOf (now (s .entry))) ⌝ }

@@ -15,7 +15,7 @@ ghost use mathlib.Core.Path.{_≡_};
 ghost use Rattle.trains.specs.Kinds.{lastTicket, isAbove};
 ghost use Rattle.rules.specs.Registering.{ticketOf, ticketFor, requestGround, requested};
 ghost use Rattle.rules.specs.Ruling.{ruled};
-ghost use Rattle.store.specs.View.{viewOf, counterOf};
+ghost use Rattle.store.specs.Stands.{viewOf, counterOf};
 
 // The next ticket, where one is left.
 fn ticket_for(counter: Ticket) -> Ticket

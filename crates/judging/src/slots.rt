@@ -1,11 +1,13 @@
 // The search of the slot book for a run of free slots.
 use rules::slots::FreeRun;
 use store::view;
-use trains::kinds::LAST_SLOT;
+use trains::kinds;
 use trains::kinds::Slot;
 ghost use mathlib.Core.Path.{_≡_};
 ghost use Rattle.rules.specs.Slots.{slotOf, isFree, lowestRun};
-ghost use Rattle.store.specs.View.{bookOf};
+ghost use Rattle.store.specs.Stands.{bookOf};
+
+const LAST_SLOT: usize = kinds::LAST_SLOT as usize;
 
 // Is there a slot with this number, and is it free?
 fn is_free(s: &[u8], slot: usize) -> bool
@@ -14,7 +16,7 @@ fn is_free(s: &[u8], slot: usize) -> bool
     if slot < 1 {
         return false;
     }
-    if slot > LAST_SLOT as usize {
+    if slot > LAST_SLOT {
         return false;
     }
     !view::is_taken(s, Slot(slot as u32))
@@ -26,7 +28,7 @@ pub(crate) fn lowest_run(s: &[u8], n: u32) -> FreeRun
 {
     let mut start: usize = 1;
     'starts: loop {
-        if start > LAST_SLOT as usize {
+        if start > LAST_SLOT {
             break FreeRun::NoRun;
         }
         let end = start + n as usize;

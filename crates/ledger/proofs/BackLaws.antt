@@ -19,7 +19,7 @@ use Rattle.rows.specs.Row.{rowBytes, rowAt}
 use Rattle.trains.specs.Kinds.{lastSlot}
 use Rattle.store.specs.Effect.{rowChanged}
 use Rattle.store.specs.Layout.{counterAt, keptAt, bookAt, rowsAt, logAt, rowPlace, keptRowBytes, entryBytes, entryPlace, oneAt, otherAt, sessionBytes}
-use Rattle.store.specs.View.{View, viewOf, bookOf, counterOf, keptOf, headOf}
+use Rattle.store.specs.Stands.{View, viewOf, bookOf, counterOf, keptOf, headOf}
 use Rattle.store.proofs.Frames.{Changes, widen, next, Ready, ready-after}
 use Rattle.store.proofs.RegisterLaws.{view-by, view-book, rows-stay, view-stays, row-changed}
 use Rattle.store.proofs.ViewLaws.{view-rows, head-in, kept-in, entry-room}

@@ -15,7 +15,7 @@ use Rattle.trains.specs.Kinds.{lastSlot}
 use Rattle.trains.specs.declared.record.Train.{Train}
 use Rattle.store.specs.declared.effect.Change.{Change}
 use Rattle.store.specs.Layout.{bookAt, rowsAt, logAt, rowPlace, keptRowBytes, entryBytes, entryPlace, oneAt, otherAt, sessionBytes}
-use Rattle.store.specs.View.{bookOf}
+use Rattle.store.specs.Stands.{bookOf}
 use Rattle.store.proofs.Frames.{Clear, Changes, widen, next, number-changes, number-stays, row-stays, stretch-stays, Ready, ready-after}
 use Rattle.store.proofs.Stretches.{stretch-same}
 use Rattle.store.proofs.ViewLaws.{entry-room}

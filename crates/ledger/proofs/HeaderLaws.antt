@@ -8,7 +8,7 @@ use lib.ListN.{length}
 use Rattle.numbers.specs.Numbers.{numberAt, putNumber}
 use Rattle.numbers.proofs.FieldLaws.{Bytes, field-put}
 use Rattle.store.specs.Layout.{counterAt, keptAt, headAt, bookAt}
-use Rattle.store.specs.View.{counterOf}
+use Rattle.store.specs.Stands.{counterOf}
 use Rattle.store.proofs.Frames.{Changes, widen, next, number-changes, number-stays}
 use Rattle.ledger.specs.Settled.{headed}
 

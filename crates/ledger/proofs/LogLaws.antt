@@ -13,7 +13,7 @@ use Rattle.trains.specs.declared.record.Train.{Train}
 use Rattle.store.specs.declared.effect.Effect.{Effect}
 use Rattle.store.specs.Effect.{applied}
 use Rattle.store.specs.Emptied.{emptied}
-use Rattle.store.specs.View.{View, headOf}
+use Rattle.store.specs.Stands.{View, headOf}
 use Rattle.store.proofs.EmptyLaws.{emptied-kept}
 use Rattle.ledger.specs.Log.{saved, undone, entryIn, logOf}
 

@@ -13,7 +13,7 @@ use Rattle.trains.specs.Ranges.{oneTo}
 use Rattle.trains.proofs.RangeLaws.{one-to}
 use Rattle.store.specs.Effect.{slotMarked, marked}
 use Rattle.store.specs.Layout.{bookAt, rowsAt}
-use Rattle.store.specs.View.{bookOf}
+use Rattle.store.specs.Stands.{bookOf}
 use Rattle.store.proofs.BookLaws.{length-marked, marked-past, marked-zero, marked-suc, length-book, book-back, book-same, book-twice, book-byte}
 use Rattle.store.proofs.Frames.{Changes, bytes-marked}
 use Rattle.store.proofs.Stretches.{Outside, sets-out, bytes-sets, bytes-stretch}

@@ -20,7 +20,7 @@ use Rattle.store.specs.declared.effect.Change.{Change}
 use Rattle.store.specs.declared.effect.Effect.{Effect}
 use Rattle.store.specs.Effect.{InBounds, rowChanged, marked, applied}
 use Rattle.store.specs.Layout.{counterAt, keptAt, headAt, bookAt, rowPlace, entryBytes, entryPlace}
-use Rattle.store.specs.View.{View, viewOf, counterOf, keptOf, headOf, rowIn}
+use Rattle.store.specs.Stands.{View, viewOf, counterOf, keptOf, headOf, rowIn}
 use Rattle.store.proofs.Frames.{Clear, Changes, widen, next, number-stays, row-changes, Ready, ready-after}
 use Rattle.store.proofs.RegisterLaws.{view-by, view-book, rows-stay, view-stays, row-changed}
 use Rattle.store.proofs.ViewLaws.{view-row, head-in, kept-in}

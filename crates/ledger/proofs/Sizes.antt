@@ -13,7 +13,7 @@ use Rattle.rows.specs.Row.{rowBytes}
 use Rattle.trains.specs.Kinds.{lastSlot}
 use Rattle.store.specs.Effect.{marked}
 use Rattle.store.specs.Layout.{bookAt, rowPlace, oneAt, otherAt}
-use Rattle.store.specs.View.{bookOf}
+use Rattle.store.specs.Stands.{bookOf}
 use Rattle.ledger.specs.Back.{rowBack, entryBack, stepped}
 use Rattle.ledger.specs.Copied.{copied}
 use Rattle.ledger.specs.Settled.{headed, bookMarked}

@@ -10,7 +10,7 @@ use Rattle.rows.specs.Register.{rowCount}
 use Rattle.rows.specs.Row.{rowBytes}
 use Rattle.trains.specs.Kinds.{lastSlot}
 use Rattle.store.specs.Layout.{isSession, bookAt, rowPlace, entryPlace, oneAt, otherAt}
-use Rattle.store.specs.View.{counterOf, keptOf, headOf}
+use Rattle.store.specs.Stands.{counterOf, keptOf, headOf}
 use Rattle.ledger.specs.Copied.{copied}
 use Rattle.ledger.specs.Settled.{headed}
 

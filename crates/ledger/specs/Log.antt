@@ -11,7 +11,7 @@ use Rattle.store.specs.declared.effect.Change.{Change}
 use Rattle.store.specs.declared.effect.Effect.{Effect}
 use Rattle.store.specs.Effect.{rowChanged}
 use Rattle.store.specs.Layout.{entryPlace, oneAt, otherAt}
-use Rattle.store.specs.View.{View, rowIn, keptOf, headOf}
+use Rattle.store.specs.Stands.{View, rowIn, keptOf, headOf}
 
 -- what one operation can change: the book, and two rows with their numbers
 pub record Entry : Type 0 where

@@ -13,7 +13,7 @@ use Rattle.store.specs.declared.effect.Change.{Change}
 use Rattle.store.specs.declared.effect.Effect.{Effect}
 use Rattle.store.specs.Effect.{inBounds, marked}
 use Rattle.store.specs.Layout.{isSession, counterAt, keptAt, headAt, bookAt, rowPlace, entryPlace, oneAt, otherAt}
-use Rattle.store.specs.View.{bookOf, keptOf, headOf}
+use Rattle.store.specs.Stands.{bookOf, keptOf, headOf}
 use Rattle.ledger.specs.Copied.{copied}
 
 -- a row's number and the row kept from a byte on

@@ -19,7 +19,7 @@ use Rattle.trains.specs.Authority.{nearer, nearest, limitStop, orderStop, dange
 use Rattle.rows.specs.Register.{holdsLoco, isSought}
 use Rattle.store.specs.Effect.{slotMarked, marked, applied}
 use Rattle.store.specs.Layout.{sessionBytes}
-use Rattle.store.specs.View.{soughtIn, findIn}
+use Rattle.store.specs.Stands.{soughtIn, findIn}
 use Rattle.sos.specs.Classes.{among, classOf}
 use Rattle.sos.specs.Grids.{cellOf}
 use Rattle.sos.specs.Shares.{behind, shareOfL1, shareBehind}

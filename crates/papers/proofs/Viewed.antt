@@ -15,7 +15,7 @@ use Rattle.trains.specs.declared.kinds.Ticket.{Ticket}
 use Rattle.store.specs.Effect.{applied}
 use Rattle.store.specs.Emptied.{emptied}
 use Rattle.store.specs.Layout.{sessionBytes}
-use Rattle.store.specs.View.{View, viewOf, counterOf}
+use Rattle.store.specs.Stands.{View, viewOf, counterOf}
 use Rattle.store.proofs.EmptyLaws.{emptied-ready, emptied-view, emptied-counter}
 use Rattle.store.proofs.Frames.{Ready}
 use Rattle.rulings.specs.Ruling.{isAccepted}

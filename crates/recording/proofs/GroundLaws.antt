@@ -19,7 +19,7 @@ use Rattle.trains.specs.declared.record.Location.{Location}
 use Rattle.trains.specs.declared.record.Location.the-variants.{Nowhere, At}
 use Rattle.trains.specs.declared.record.Train.{Train}
 use Rattle.store.specs.Layout.{sessionBytes}
-use Rattle.store.specs.View.{View, findIn, viewOf, counterOf, keptOf}
+use Rattle.store.specs.Stands.{View, findIn, viewOf, counterOf, keptOf}
 use Rattle.rulings.specs.Refusals.{wrongLength, tooFarBack}
 use Rattle.rulings.specs.Ruling.{acceptedWith, refusedWith, when, withFound}
 use Rattle.rulings.specs.Raising.{shared, measured, raised}

@@ -1,9 +1,13 @@
--- Laws of a chain of checks: the two ways that each can go, and what a chain without a ground says of its checks.
+-- Laws of a chain of checks: the two ways that each can go, what a chain without a ground says of its checks, and the ruling by its ground.
 use mathlib.Core.Path.{_≡_, refl, sym, ap, _∙_}
 use mathlib.Core.Bool.{Bool, true, false, true≢false, false≢true, not, cond, _||_}
 use Prim.Native.Nat.{ℕ, suc}
 use native.Mathlib.Omega.{arith}
-use Rattle.rules.specs.Ruling.{when, unless}
+use borrow.Author.Tests.{ne-eqb}
+use lib.Dec.{eqb}
+use Rattle.trains.specs.declared.kinds.Ticket.{Ticket}
+use Rattle.rules.specs.declared.ruling.Ruling.{Ruling}
+use Rattle.rules.specs.Ruling.{when, unless, refused, ruled}
 
 -- a check that gives its ground, and one that passes on
 pub stops : (test : Bool) (ground next : ℕ) → test ≡ true → ground ≡ when test ground next
@@ -47,3 +51,16 @@ either-next a b r e f = f ∙ sym (ap (λ (x : Bool). x || b) e)
 pub neither : (a b : Bool) → (a || b) ≡ false → (a ≡ false) × (b ≡ false)
 neither true b e = absurd (true≢false e)
 neither false b e = (refl, e)
+
+-- ---- rulings
+
+-- a ground refuses, and where there is none the operation does what it does
+pub refuses : (counter : Ticket) (g ground : ℕ) (done : Ruling) → suc g ≡ ground → refused counter (suc g) ≡ ruled counter ground done
+unfolding ruled
+refuses counter g ground done e =
+    sym (λ i. cond (ne-eqb (suc g) 0 (λ z. omega arith) i) done (refused counter (suc g)))
+    ∙ ap (λ (n : ℕ). cond (eqb n 0) done (refused counter n)) e
+
+pub allows : (counter : Ticket) (ground : ℕ) (done : Ruling) → 0 ≡ ground → done ≡ ruled counter ground done
+unfolding ruled
+allows counter ground done e = ap (λ (n : ℕ). cond (eqb n 0) done (refused counter n)) e

@@ -13,7 +13,7 @@ use Rattle.numbers.proofs.NumberLaws.{number-lt}
 use Rattle.replay.specs.Demand3.{depth}
 use Rattle.store.specs.Effect.{applied}
 use Rattle.store.specs.Layout.{counterAt, sessionBytes}
-use Rattle.store.specs.View.{View, viewOf, counterOf, keptOf}
+use Rattle.store.specs.Stands.{View, viewOf, counterOf, keptOf}
 use Rattle.store.specs.declared.effect.Effect.{Effect}
 use Rattle.store.proofs.Frames.{Ready}
 use Rattle.ledger.specs.Log.{saved, logOf}

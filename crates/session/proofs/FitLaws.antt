@@ -24,7 +24,7 @@ use Rattle.trains.specs.declared.kinds.Loco.{Loco}
 use Rattle.trains.specs.declared.kinds.Ticket.{Ticket}
 use Rattle.trains.specs.declared.record.Location.the-variants.{Nowhere, At}
 use Rattle.trains.specs.declared.record.Train.{Train}
-use Rattle.store.specs.View.{View, findIn}
+use Rattle.store.specs.Stands.{View, findIn}
 use Rattle.ledger.proofs.SettledLaws.{EffectFits}
 use Rattle.rules.specs.declared.named.Named.{Named}
 use Rattle.rulings.specs.declared.ruling.Ruling.{Ruling}

@@ -8,7 +8,7 @@ use borrow.Author.Tests.{eq-eqb, ne-eqb, lt-ltb, le-ltb}
 use lib.Dec.{ltb}
 use lib.ListN.{length}
 use Rattle.store.specs.Layout.{sessionBytes}
-use Rattle.store.specs.View.{viewOf, counterOf, keptOf}
+use Rattle.store.specs.Stands.{viewOf, counterOf, keptOf}
 use Rattle.store.specs.Effect.{InBounds}
 use Rattle.ledger.specs.Back.{steppedBy}
 use Rattle.ledger.specs.Settled.{settled}

@@ -12,7 +12,7 @@ use Rattle.rules.specs.declared.ruling.Answer.{Answer}
 use Rattle.rules.specs.declared.ruling.Ruling.{Ruling}
 use Rattle.store.specs.Emptied.{emptied}
 use Rattle.store.specs.Layout.{isSession}
-use Rattle.store.specs.View.{keptOf}
+use Rattle.store.specs.Stands.{keptOf}
 use Rattle.ledger.specs.Back.{steppedIn}
 use Rattle.ledger.specs.Settled.{settledIn}
 use Rattle.judging.specs.Judged.{judged, endJudged}

@@ -9,7 +9,7 @@ use trains::kinds::Ticket;
 use trains::record::Train;
 ghost use mathlib.Core.Path.{_≡_};
 ghost use Rattle.rules.specs.View.{rowIn, isTaken};
-ghost use Rattle.store.specs.View.{viewOf, bookOf, counterOf, keptOf};
+ghost use Rattle.store.specs.Stands.{viewOf, bookOf, counterOf, keptOf};
 ghost use Rattle.session.specs.Answers.{endAnswerTo};
 
 // The train in a row of the register, counted from 0. A row above 23 reads as blank.

@@ -17,7 +17,7 @@ use Rattle.replay.specs.Machine.{counterAfter as counterDue, acted, undoAll, un
 use Rattle.replay.specs.Kept.{Steps, Kept}
 use Rattle.replay.proofs.Rings.{length-readBack}
 use Rattle.store.specs.Effect.{applied}
-use Rattle.store.specs.View.{View, viewOf, counterOf, keptOf, headOf}
+use Rattle.store.specs.Stands.{View, viewOf, counterOf, keptOf, headOf}
 use Rattle.store.proofs.Frames.{Ready}
 use Rattle.ledger.specs.Back.{steppedBy}
 use Rattle.ledger.specs.Log.{Entry, saved, undone, entryIn, logOf}

@@ -8,7 +8,7 @@ use lib.ListN.{length}
 use Rattle.replay.specs.Rules.{Lawful, refuse, accept, lastTicket}
 use Rattle.rows.specs.Register.{rowCount}
 use Rattle.store.specs.Effect.{applied}
-use Rattle.store.specs.View.{View}
+use Rattle.store.specs.Stands.{View}
 use Rattle.store.proofs.EffectLaws.{applied-rows}
 use Rattle.ledger.specs.Log.{saved, undone}
 use Rattle.ledger.proofs.LogLaws.{undo-save}

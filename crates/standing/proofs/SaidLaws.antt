@@ -10,7 +10,7 @@ use lib.ListN.{length}
 use Rattle.numbers.proofs.FieldLaws.{lt-or-le}
 use Rattle.replay.specs.Demand3.{Call, op, back, took, wentBack, refused}
 use Rattle.store.specs.Layout.{sessionBytes}
-use Rattle.store.specs.View.{keptOf}
+use Rattle.store.specs.Stands.{keptOf}
 use Rattle.session.specs.Answers.{answerTo, backAnswer}
 use Rattle.rulings.specs.Refusals.{wrongLength, tooFarBack}
 use Rattle.rules.specs.Rules.{Op}

@@ -14,7 +14,7 @@ use Rattle.replay.proofs.Numbered.{tickets-numbered}
 use Rattle.replay.proofs.Played.{played}
 use Rattle.store.specs.Emptied.{emptied}
 use Rattle.store.specs.Layout.{sessionBytes}
-use Rattle.store.specs.View.{counterOf}
+use Rattle.store.specs.Stands.{counterOf}
 use Rattle.store.proofs.EmptyLaws.{emptied-ready, emptied-counter}
 use Rattle.store.proofs.ViewLaws.{view-rows}
 use Rattle.ledger.proofs.LogLaws.{emptied-log}

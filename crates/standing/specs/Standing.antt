@@ -18,7 +18,7 @@ use Rattle.rules.specs.declared.ruling.Ruling.{Ruling}
 use Rattle.rules.specs.declared.settings.Settings.{Settings}
 use Rattle.order.specs.Sound.{Sound}
 use Rattle.store.specs.Lent.{Lent}
-use Rattle.store.specs.View.{viewOf, counterOf}
+use Rattle.store.specs.Stands.{viewOf, counterOf}
 use Rattle.ledger.specs.Log.{Entry, saved, undone, logOf}
 use Rattle.session.specs.Answers.{answerTo, bytesAfter, backAnswer, backAfter}
 use Rattle.session.specs.Settings.{usual}

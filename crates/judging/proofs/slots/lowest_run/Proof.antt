@@ -4,7 +4,7 @@ use Rattle.trains.specs.Kinds.{lastSlot}
 use mathlib.Core.Path.{_≡_, refl, sym, _∙_}
 use native.Mathlib.Omega.{arith}
 use borrow.Author.Tests.{not-true, not-false}
-use Rattle.store.specs.View.{bookOf}
+use Rattle.store.specs.Stands.{bookOf}
 use Rattle.rules.specs.Slots.{isRun}
 use Rattle.judging.proofs.SlotLaws.{Passed, run-all, run-more, run-not, run-end, passed-none, passed-more, passed-all, passed-hit}
 use borrow.Author.Needs.{needs}
@@ -41,6 +41,9 @@ loop-again c = let v = c .before .before .before .loop .inv in (
   v .3 ∙ run-more _ _ _ (c .before .before .loop-test .taken) (sym (c .before .is-free .ensures) ∙ not-false _ (c .if2 .left)),
 )
 
+cast-t11 : tie.Need-cast-t11 Inv-loop μ-loop Inv-starts μ-starts
+cast-t11 c = omega (arith, c .before .loop .inv .0, c .before .before .if1 .left)
+
 returns-2 : tie.Need-returns-2 Inv-loop μ-loop Inv-starts μ-starts
 returns-2 c = let v = c .before .loop .inv in
     passed-hit _ _ _ _ (v .0) (c .before .before .if1 .left) (v .3 ∙ run-end _ _ _ (c .loop-test .left)) (c .before .before .before .starts .inv .2)
@@ -52,4 +55,4 @@ lowest-run-spec =
     Inv-loop μ-loop Inv-starts μ-starts (λ c. (search needs, search needs, passed-none _ _)) (λ c. search needs)
     (λ c. (refl, search needs, search needs, run-all (bookOf (c .before .before .before .args .s .now)) (c .before .before .before .args .n) (c .before .starts .start)))
     (λ c κs. search needs) (λ c. search needs) (λ c. search needs) starts-again (λ c. search needs) (λ c. search needs)
-    loop-again (λ c. passed-all _ _ _ (c .if1 .taken) (c .before .starts .inv .2)) returns-2)
+    loop-again cast-t11 (λ c. passed-all _ _ _ (c .if1 .taken) (c .before .starts .inv .2)) returns-2)

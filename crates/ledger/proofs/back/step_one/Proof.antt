@@ -6,7 +6,7 @@ use Rattle.replay.specs.Demand3.{depth}
 use Rattle.replay.specs.Ring.{before}
 use Rattle.replay.proofs.Rings.{before-in}
 use Rattle.store.specs.Layout.{entryPlace}
-use Rattle.store.specs.View.{headOf}
+use Rattle.store.specs.Stands.{headOf}
 use Rattle.store.proofs.ViewLaws.{head-in, entry-room}
 use Rattle.ledger.specs.Back.{entryBack, stepped}
 use Rattle.ledger.specs.Settled.{headed}

@@ -6,7 +6,7 @@ use Rattle.replay.specs.Demand3.{depth}
 use Rattle.replay.specs.Ring.{after}
 use Rattle.replay.proofs.Rings.{after-in}
 use Rattle.store.specs.Layout.{entryPlace}
-use Rattle.store.specs.View.{headOf}
+use Rattle.store.specs.Stands.{headOf}
 use Rattle.store.proofs.ViewLaws.{head-in, entry-room}
 use Rattle.ledger.specs.Settled.{entryKept, headed, pushed}
 use borrow.Author.Needs.{needs}
