@@ -17,6 +17,7 @@ use Rattle.trains.specs.Sought.{rowCount, holdsLoco, isSought}
 use Rattle.trains.specs.declared.found.Found.{Found}
 use Rattle.trains.specs.declared.found.Found.the-variants.{Nothing, Index}
 use Rattle.trains.specs.declared.kinds.Loco.{Loco}
+use Rattle.trains.specs.declared.kinds.Slot.{Slot}
 use Rattle.trains.specs.declared.kinds.Ticket.{Ticket}
 use Rattle.trains.specs.declared.record.Train.{Train}
 use Rattle.trains.specs.declared.sought.Sought.{Sought}
@@ -117,8 +118,8 @@ abbrev pub rowFor : View → ℕ
 rowFor v = rowOfFound (findIn v Empty)
 
 -- the first slot that a request gets
-abbrev pub startFor : ℕ → ℕ → View → ℕ
-startFor perSlot bytes v = startOf (lowestRun (v .book) (slotsFor perSlot bytes)) .0
+abbrev pub runFor : ℕ → ℕ → View → Slot
+runFor perSlot bytes v = startOf (lowestRun (v .book) (slotsFor perSlot bytes))
 
 pub record Requests (perSlot : ℕ) (wanted : Loco) (bytes : ℕ) (counter : Ticket) (v : View) : Type 0 where
   -- the loco is in range
@@ -133,7 +134,7 @@ pub record Requests (perSlot : ℕ) (wanted : Loco) (bytes : ℕ) (counter : Tic
   -- a ticket is left
   pub below : counter .0 < lastTicket
   -- the slots from the start on are free
-  pub run : (slot : ℕ) → InRun (startFor perSlot bytes v) (slotsFor perSlot bytes) slot → Free (v .book) slot
+  pub run : (slot : ℕ) → InRun (runFor perSlot bytes v .0) (slotsFor perSlot bytes) slot → Free (v .book) slot
 
 pub requests : (perSlot : ℕ) (loco : Loco) (bytes : ℕ) (counter : Ticket) (v : View) → requestGround perSlot loco bytes counter v ≡ 0
     → Requests perSlot loco bytes counter v
