@@ -1,128 +1,128 @@
 -- LAWS OF THE VIEW: what an operation that is accepted leaves in a session's bytes, and that one that is refused leaves every byte as it was.
--- Assumes nothing.
 use mathlib.Core.Path.{_≡_, refl, sym, ap, _∙_}
-use mathlib.Core.Bool.{Bool, true, false, true≢false, false≢true, cond}
+use mathlib.Core.Bool.{Bool, true, false, cond}
 use mathlib.Core.List.{List, _∷_}
-use mathlib.Core.Logic.{_⊎_, inl, inr}
+use mathlib.Core.Logic.{⊎-elim, _⊎_, inl, inr}
 use Prim.Native.Nat.{ℕ, suc, _^_, _≤_, _<_, min}
 use native.Mathlib.Decide.{ℕ-discrete}
 use native.Mathlib.Omega.{arith}
+use borrow.Author.Tests.{eq-eqb}
 use lib.ListN.{length, take}
 use Rattle.numbers.proofs.FieldLaws.{lt-or-le}
 use Rattle.numbers.proofs.NumberLaws.{number-lt}
 use Rattle.replay.specs.Demand3.{depth}
-use Rattle.store.specs.Effect.{applied}
-use Rattle.store.specs.Layout.{counterAt, sessionBytes}
-use Rattle.store.specs.Stands.{View, viewOf, counterOf, keptOf}
-use Rattle.store.specs.declared.effect.Effect.{Effect}
-use Rattle.store.proofs.Frames.{Ready}
+use Rattle.trains.specs.Sought.{rowCount}
+use Rattle.trains.specs.declared.kinds.Ticket.{Ticket}
+use Rattle.rules.specs.Effect.{applied}
+use Rattle.rules.specs.Registering.{ticketFor}
+use Rattle.rules.specs.Rules.{Op, grants, groundOf, doneBy}
+use Rattle.rules.specs.View.{View}
+use Rattle.rules.specs.declared.effect.Effect.{Effect}
+use Rattle.rules.specs.declared.ruling.Answer.{Answer}
+use Rattle.rules.specs.declared.ruling.Ruling.{Ruling}
+use Rattle.order.proofs.RuleLaws.{accepted-plain, accepted-exactly, counter-after, grant-below}
+use Rattle.store.specs.Layout.{counterAt, sessionBytes, isSession}
+use Rattle.store.specs.Lent.{Lent}
+use Rattle.store.specs.Stands.{viewOf, counterOf, keptOf}
+use Rattle.store.specs.Tidy.{Tidy}
+use Rattle.store.proofs.ViewLaws.{view-fits, view-row-past}
 use Rattle.ledger.specs.Log.{saved, logOf}
 use Rattle.ledger.specs.Settled.{settled}
-use Rattle.ledger.proofs.SettledLaws.{EffectFits, settled-ready, settled-view, settled-counter, settled-kept, settled-log}
-use Rattle.rulings.specs.declared.ruling.Answer.{Answer}
-use Rattle.rules.specs.Judged.{judged}
+use Rattle.ledger.proofs.BoundsLaws.{settled-in}
+use Rattle.ledger.proofs.SettledLaws.{EffectFits, settled-lent, settled-view, settled-counter, settled-kept, settled-log}
+use Rattle.ledger.proofs.TidyLaws.{settled-tidy}
+use Rattle.judging.specs.Judged.{judged}
 use Rattle.session.specs.Answers.{answerTo, bytesAfter, backAnswer, backAfter}
-use Rattle.rules.specs.Rules.{Op, request, release, flags, position, authority, danger, sos, clear, grants, rule, counterAfter}
-use Rattle.session.proofs.FitLaws.{fitting}
-use Rattle.session.proofs.OperationLaws.{is-session, no-session, taken-in, not-taken, back-refused, back-taken}
-use Rattle.rules.proofs.RequestLaws.{Answers, request-ticket}
-use Rattle.session.proofs.SoundLaws.{Sound, sound-bytes, sound-applied}
+use Rattle.session.specs.Settings.{usual}
+use Rattle.session.proofs.FitLaws.{Fitted, fits-blank, fitting}
+use Rattle.session.proofs.OperationLaws.{of-session, of-none, taken-in, not-taken, taken-elsewhere, back-far, back-refused, back-taken, back-elsewhere}
 
--- ---- the rules
-
--- an operation that is no grant is judged alike under every ticket
-pub ticket-idle : (o : Op) (t u : ℕ) (v : View) → grants o ≡ false → rule o t v ≡ rule o u v
-unfolding grants rule
-ticket-idle (request loco bytes) t u v e = absurd (true≢false e)
-ticket-idle (release loco ticket) t u v e = refl
-ticket-idle (flags loco ticket fs) t u v e = refl
-ticket-idle (position loco ticket front rear) t u v e = refl
-ticket-idle (authority loco ticket end) t u v e = refl
-ticket-idle (danger loco ticket location) t u v e = refl
-ticket-idle (sos loco2 ticket2 loco1 ticket1 grid) t u v e = refl
-ticket-idle (clear loco ticket other) t u v e = refl
-
--- a grant that is accepted answers its ticket, which is one
-pub grant-ticket : (o : Op) (t : ℕ) (v : View) → grants o ≡ true → Answers t (rule o t v)
-unfolding grants rule
-grant-ticket (request loco bytes) t v e = request-ticket loco bytes t v
-grant-ticket (release loco ticket) t v e = absurd (false≢true e)
-grant-ticket (flags loco ticket fs) t v e = absurd (false≢true e)
-grant-ticket (position loco ticket front rear) t v e = absurd (false≢true e)
-grant-ticket (authority loco ticket end) t v e = absurd (false≢true e)
-grant-ticket (danger loco ticket location) t v e = absurd (false≢true e)
-grant-ticket (sos loco2 ticket2 loco1 ticket1 grid) t v e = absurd (false≢true e)
-grant-ticket (clear loco ticket other) t v e = absurd (false≢true e)
-
--- an accepted ruling leads from a sound view to a sound one
-pub rule-sound : (o : Op) (t : ℕ) (v : View) → Sound v → Sound (applied v (rule o t v .effect))
-rule-sound o t v sound = sound-applied v (rule o t v .effect) sound (fitting o t v sound)
+-- the trains in a session's bytes fit their rows
+pub fitted-bytes : (bs : List ℕ) → Fitted (viewOf bs)
+fitted-bytes bs i = ⊎-elim (λ l. view-fits bs i l) (λ l. rw (view-row-past bs i l) fits-blank) (lt-or-le i rowCount)
 
 -- ---- an operation that is accepted
 
-module _ (bs : List ℕ) (ready : Ready bs) (o : Op) (h : judged bs o .answer .answer ≡ 0) where
+module _ (bs : List ℕ) (lent : Lent bs) (o : Op) (h : judged usual bs o .answer .answer ≡ 0) where
+  -- there is no ground
+  pub no-ground : groundOf usual o (counterOf bs) (viewOf bs) ≡ 0
+  unfolding judged
+  no-ground = accepted-exactly usual o (counterOf bs) (ticketFor (counterOf bs)) (viewOf bs) .0 h
+
+  -- and the ruling is what the operation does
+  pub judged-is : judged usual bs o ≡ doneBy usual o (counterOf bs) (ticketFor (counterOf bs)) (viewOf bs)
+  unfolding judged
+  judged-is = accepted-plain usual o (counterOf bs) (ticketFor (counterOf bs)) (viewOf bs) no-ground
+
   effect : Effect
-  effect = judged bs o .effect
+  effect = judged usual bs o .effect
+
+  counter : Ticket
+  counter = judged usual bs o .counter
 
   fits : EffectFits effect
-  unfolding effect judged
-  fits = fitting o (suc (counterOf bs)) (viewOf bs) (sound-bytes bs ready)
+  unfolding effect
+  fits = rw judged-is (fitting usual (counterOf bs) (viewOf bs) (fitted-bytes bs) o no-ground)
 
-  after-is : bytesAfter bs o ≡ settled bs (counterAfter o (counterOf bs)) effect
-  unfolding bytesAfter effect
-  after-is = is-session bs _ _ (ready .size) ∙ sym (taken-in bs (counterAfter o (counterOf bs)) (judged bs o) h)
+  after-is : bytesAfter bs o ≡ settled bs counter effect
+  unfolding bytesAfter effect counter
+  after-is = sym (taken-in bs (judged usual bs o) h) ∙ settled-in bs counter effect (lent .size) (fits .bounds)
 
-  counter-small : counterAfter o (counterOf bs) < 2 ^ 32
-  unfolding counterAfter judged
-  counter-small = by (grants o) refl
+  -- the counter is the ticket of a grant, and stays otherwise
+  pub counter-is : judged usual bs o .counter ≡ cond (grants o) (ticketFor (counterOf bs)) (counterOf bs)
+  unfolding judged
+  counter-is = counter-after usual o (counterOf bs) (ticketFor (counterOf bs)) (viewOf bs) no-ground
+
+  counter-small : counter .0 < 2 ^ 32
+  unfolding counter ticketFor
+  counter-small = rw counter-is (by (grants o) refl)
     where
-      by : (b : Bool) → grants o ≡ b → cond b (suc (counterOf bs)) (counterOf bs) < 2 ^ 32
-      by true e = omega (arith, grant-ticket o (suc (counterOf bs)) (viewOf bs) e h .1)
-      by false e = number-lt 4 bs counterAt
+      by : (b : Bool) → grants o ≡ b → cond b (ticketFor (counterOf bs)) (counterOf bs) .0 < 2 ^ 32
+      by true g = omega (arith, grant-below usual o (counterOf bs) (ticketFor (counterOf bs)) (viewOf bs) no-ground g)
+      by false g = number-lt 4 bs counterAt
 
-  pub after-ready : Ready (bytesAfter bs o)
-  after-ready = rw after-is (settled-ready bs ready (counterAfter o (counterOf bs)) effect fits)
+  pub after-lent : Lent (bytesAfter bs o)
+  after-lent = rw after-is (settled-lent bs lent counter effect fits)
 
   -- the view is the ruling's effect on the view before
-  pub after-view : viewOf (bytesAfter bs o) ≡ applied (viewOf bs) (judged bs o .effect)
+  pub after-view : viewOf (bytesAfter bs o) ≡ applied (viewOf bs) (judged usual bs o .effect)
   unfolding effect
-  after-view = ap viewOf after-is ∙ settled-view bs ready (counterAfter o (counterOf bs)) effect fits
+  after-view = ap viewOf after-is ∙ settled-view bs lent counter effect fits
 
-  -- the counter is the rules' counter
-  pub after-counter : counterOf (bytesAfter bs o) ≡ counterAfter o (counterOf bs)
-  after-counter = ap counterOf after-is ∙ settled-counter bs ready (counterAfter o (counterOf bs)) effect fits counter-small
+  -- the counter is the ruling's
+  pub after-counter : counterOf (bytesAfter bs o) ≡ judged usual bs o .counter
+  unfolding counter
+  after-counter = ap counterOf after-is ∙ settled-counter bs lent counter effect fits counter-small
 
   -- one more entry is kept, up to the log's depth
   pub after-kept : keptOf (bytesAfter bs o) ≡ min depth (suc (keptOf bs))
-  after-kept = ap keptOf after-is ∙ settled-kept bs ready (counterAfter o (counterOf bs)) effect fits
+  after-kept = ap keptOf after-is ∙ settled-kept bs lent counter effect fits
 
-  -- what was saved of the view before is on top of the log
-  pub after-log : logOf (bytesAfter bs o) ≡ take depth (saved (viewOf bs) (judged bs o .effect) ∷ logOf bs)
+  -- what undoes the effect is on top of the log
+  pub after-log : logOf (bytesAfter bs o) ≡ take depth (saved (viewOf bs) (judged usual bs o .effect) ∷ logOf bs)
   unfolding effect
-  after-log = ap logOf after-is ∙ settled-log bs ready (counterAfter o (counterOf bs)) effect fits
+  after-log = ap logOf after-is ∙ settled-log bs lent counter effect fits
+
+  -- tidy bytes stay tidy
+  pub after-tidy : Tidy bs → Tidy (bytesAfter bs o)
+  after-tidy tidy = rw after-is (settled-tidy bs lent counter effect fits tidy)
 
 -- ---- a call that is refused
-
-back-elsewhere : (bs : List ℕ) (k : ℕ) → (length bs ≡ sessionBytes → ⊥) → backAfter bs k ≡ bs
-unfolding backAfter
-back-elsewhere bs k n = no-session bs _ _ n
 
 -- an operation that is refused leaves every byte as it was, whatever bytes they are
 pub refused-bytes : (bs : List ℕ) (o : Op) → (answerTo bs o .answer ≡ 0 → ⊥) → bytesAfter bs o ≡ bs
 unfolding answerTo bytesAfter
-refused-bytes bs o h = of (ℕ-discrete (length bs) sessionBytes)
+refused-bytes bs o h = of (isSession bs) refl
   where
-    of : Dec (length bs ≡ sessionBytes) → bytesAfter bs o ≡ bs
-    of (yes e) =
-        is-session bs _ _ e
-        ∙ sym (not-taken bs (counterAfter o (counterOf bs)) (judged bs o) (λ z. h (ap (λ (a : Answer). a .answer) (is-session bs _ _ e) ∙ z)))
-    of (no n) = no-session bs _ _ n
+    of : (b : Bool) → isSession bs ≡ b → bytesAfter bs o ≡ bs
+    of true e = sym (not-taken bs (judged usual bs o) (λ z. h (ap (λ (a : Answer). a .answer) (of-session bs _ e) ∙ z)))
+    of false e = sym (taken-elsewhere bs (judged usual bs o) e)
 
 -- and so does a step back
 pub refused-back : (bs : List ℕ) (k : ℕ) → (backAnswer bs k .answer ≡ 0 → ⊥) → backAfter bs k ≡ bs
-refused-back bs k h = of (ℕ-discrete (length bs) sessionBytes) (lt-or-le (keptOf bs) k)
+refused-back bs k h = of (isSession bs) refl (lt-or-le (keptOf bs) k)
   where
-    of : Dec (length bs ≡ sessionBytes) → (keptOf bs < k) ⊎ (k ≤ keptOf bs) → backAfter bs k ≡ bs
-    of (yes e) (inl far) = sym (back-refused bs k e far .1)
-    of (yes e) (inr near) = absurd (h (ap (λ (a : Answer). a .answer) (sym (back-taken bs k e near .0))))
-    of (no n) d = back-elsewhere bs k n
+    of : (b : Bool) → isSession bs ≡ b → (keptOf bs < k) ⊎ (k ≤ keptOf bs) → backAfter bs k ≡ bs
+    of true e (inl far) = sym (back-far bs k far)
+    of true e (inr near) = absurd (h (ap (λ (a : Answer). a .answer) (sym (back-taken bs k e near .0))))
+    of false e d = sym (back-elsewhere bs k e)

@@ -1,6 +1,4 @@
-pub mod OperationLaws
-pub mod CounterLaws
-pub mod SoundLaws
 pub mod ShareLaws
 pub mod FitLaws
+pub mod OperationLaws
 pub mod AfterLaws

@@ -1,5 +1,6 @@
+pub mod SaidLaws
 pub mod RulesLaws
-pub mod ToldLaws
 pub mod KeptLaws
-pub mod Links
 pub mod Theorem
+pub mod OrderedLaws
+pub mod Links

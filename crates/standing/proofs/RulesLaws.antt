@@ -1,23 +1,29 @@
--- The session's rules are lawful: what demand 3 asks of them. Assumes nothing.
-use mathlib.Core.Path.{_≡_, refl, sym, ap, _∙_}
+-- The session's rules are lawful under any settings: what demand 3 asks of them.
+use mathlib.Core.Path.{_≡_, refl, sym, ap, _∙_, subst}
 use mathlib.Core.Bool.{Bool, true, false, cond}
-use Prim.Native.Nat.{ℕ, suc, _≤_}
+use Prim.Native.Nat.{ℕ, suc, _≤_, _<_}
 use native.Mathlib.Omega.{arith}
 use borrow.Author.Tests.{eqb-true, eq-eqb, ne-eqb}
-use lib.ListN.{length}
-use Rattle.replay.specs.Rules.{Lawful, refuse, accept, lastTicket}
-use Rattle.rows.specs.Register.{rowCount}
-use Rattle.store.specs.Effect.{applied}
-use Rattle.store.specs.Stands.{View}
-use Rattle.store.proofs.EffectLaws.{applied-rows}
+use Rattle.replay.specs.Rules.{Lawful, refuse, accept, justBelow, ticketDue, judged}
+use Rattle.trains.specs.Kinds.{lastTicket}
+use Rattle.trains.specs.declared.kinds.Ticket.{Ticket}
+use Rattle.rules.specs.Effect.{applied}
+use Rattle.rules.specs.Registering.{ticketOf, ticketFor}
+use Rattle.rules.specs.Rules.{Op, grants, groundOf, doneBy, rule}
+use Rattle.rules.specs.Ruling.{accepts}
+use Rattle.rules.specs.View.{View}
+use Rattle.rules.specs.declared.effect.Effect.{Effect}
+use Rattle.rules.specs.declared.ruling.Ruling.{Ruling}
+use Rattle.rules.specs.declared.settings.Settings.{Settings}
+use Rattle.order.specs.Sound.{Sound}
+use Rattle.order.proofs.RuleLaws.{accepted-plain, accepted-exactly, grant-below, Alike, again, grant-again}
+use Rattle.order.proofs.SoundLaws.{sound-kept, run-held, rows-within}
 use Rattle.ledger.specs.Log.{saved, undone}
 use Rattle.ledger.proofs.LogLaws.{undo-save}
-use Rattle.rules.specs.Rules.{Op, grants, rule}
-use Rattle.rulings.specs.declared.ruling.Ruling.{Ruling}
-use Rattle.session.proofs.AfterLaws.{grant-ticket}
-use Rattle.rules.proofs.BoundLaws.{bounded}
-use Rattle.standing.specs.Told.{Reply, accepts, replyOf}
+use Rattle.standing.specs.Said.{Reply, replyOf}
 use Rattle.standing.specs.Standing.{outcome, rules}
+
+-- ---- outcomes
 
 -- what an accepted outcome says of its ruling
 pub record Came (v : View) (q : Ruling) (r : Reply) (w : View) : Type 0 where
@@ -42,23 +48,94 @@ pub outcome-refused : (v : View) (q : Ruling) → (q .answer .answer ≡ 0 → �
 unfolding outcome
 outcome-refused v q h = rw (ne-eqb (q .answer .answer) 0 h)
 
-module _ (o : Op) (t : ℕ) (v w : View) (r : Reply) where
-  rows-stay : length (v .rows) ≡ rowCount → outcome v (rule o t v) ≡ accept r w → length (w .rows) ≡ rowCount
-  rows-stay s e = ap (λ (u : View). length (u .rows)) (sym (came v (rule o t v) r w e .view)) ∙ applied-rows v (rule o t v .effect) ∙ s
+-- rulings that come to the same have one outcome
+pub outcome-alike : (v : View) (p q : Ruling) → Alike p q → outcome v p ≡ outcome v q
+unfolding outcome
+outcome-alike v p q a =
+    λ i. cond (accepts (a .answer i)) (accept (replyOf (a .answer i)) (applied v (a .effect i))) (refuse (a .answer i .answer))
 
-  undo-saved : length (v .rows) ≡ rowCount → outcome v (rule o t v) ≡ accept r w → undone (saved v (rule o t v .effect)) w ≡ v
-  undo-saved s e =
-      ap (undone (saved v (rule o t v .effect))) (sym (came v (rule o t v) r w e .view))
-      ∙ undo-save v (rule o t v .effect) (omega (arith, s, bounded o t v .effect .one)) (omega (arith, s, bounded o t v .effect .other))
+-- ---- the ticket that is due
 
-  ticket-fits : grants o ≡ true → outcome v (rule o t v) ≡ accept r w → t ≤ lastTicket
-  unfolding lastTicket
-  ticket-fits g e = grant-ticket o t v g (came v (rule o t v) r w e .accepted) .1
+module _ (s : Settings) (o : Op) (c : ℕ) where
+  -- a grant's is the next one
+  pub due-grant : grants o ≡ true → ticketDue (rules s) o c ≡ suc c
+  unfolding ticketDue ticketFor
+  due-grant g = λ i. cond (g i) (suc c) 0
 
-pub lawful : Lawful rules
-lawful =
+  -- the ruling under the ticket that is due
+  abbrev pub dueRule : View → Ruling
+  dueRule v = rule s o (ticketOf c) (ticketOf (ticketDue (rules s) o c)) v
+
+  -- comes to the same as under the next ticket, which only a grant looks at
+  pub due-next : (v : View) → Alike (dueRule v) (rule s o (ticketOf c) (ticketFor (ticketOf c)) v)
+  unfolding ticketFor
+  due-next v = by (grants o) refl
+    where
+      by : (b : Bool) → grants o ≡ b → Alike (dueRule v) (rule s o (ticketOf c) (ticketOf (suc c)) v)
+      by true g = rw (due-grant g) (record { answer = refl; effect = refl })
+      by false g = again s o (ticketOf c) (ticketOf c) _ _ v g
+
+  -- and as where the counter stands just below it, where the operation is accepted
+  pub due-again : (v : View) → groundOf s o (ticketOf c) v ≡ 0
+      → Alike (rule s o (ticketOf (justBelow (ticketDue (rules s) o c))) (ticketOf (ticketDue (rules s) o c)) v) (dueRule v)
+  due-again v e = by (grants o) refl
+    where
+      by : (b : Bool) → grants o ≡ b → Alike (rule s o (ticketOf (justBelow (ticketDue (rules s) o c))) (ticketOf (ticketDue (rules s) o c)) v) (dueRule v)
+      by true g =
+          let below : c < lastTicket = grant-below s o (ticketOf c) (ticketOf 0) v e g in
+          grant-again s o (ticketOf (justBelow (ticketDue (rules s) o c))) (ticketOf c) _ v g (omega (arith, due-grant g, below)) below
+      by false g = again s o _ (ticketOf c) _ _ v g
+
+-- ---- the laws
+
+module _ (s : Settings) (o : Op) (c : ℕ) (v w : View) (r : Reply) (sound : Sound v) (e : outcome v (dueRule s o c v) ≡ accept r w) where
+  t : Ticket
+  t = ticketOf (ticketDue (rules s) o c)
+
+  did : Came v (dueRule s o c v) r w
+  did = came v (dueRule s o c v) r w e
+
+  ground : groundOf s o (ticketOf c) v ≡ 0
+  ground = accepted-exactly s o (ticketOf c) (ticketOf (ticketDue (rules s) o c)) v .0 (did .accepted)
+
+  effect : Effect
+  effect = doneBy s o (ticketOf c) (ticketOf (ticketDue (rules s) o c)) v .effect
+
+  effect-is : dueRule s o c v .effect ≡ effect
+  unfolding effect
+  effect-is = ap (λ (q : Ruling). q .effect) (accepted-plain s o (ticketOf c) (ticketOf (ticketDue (rules s) o c)) v ground)
+
+  view-is : applied v effect ≡ w
+  view-is = ap (applied v) (sym effect-is) ∙ did .view
+
+  pub acts-sound : Sound w
+  unfolding effect
+  acts-sound = subst Sound view-is (sound-kept s o (ticketOf c) (ticketOf (ticketDue (rules s) o c)) v sound ground)
+
+  saved-is : rule s o (ticketOf (justBelow (ticketDue (rules s) o c))) (ticketOf (ticketDue (rules s) o c)) v .effect ≡ effect
+  saved-is = due-again s o c v ground .effect ∙ effect-is
+
+  pub undoes : undone (saved v (rule s o (ticketOf (justBelow (ticketDue (rules s) o c))) (ticketOf (ticketDue (rules s) o c)) v .effect)) w ≡ v
+  unfolding effect
+  undoes =
+      (λ i. undone (saved v (saved-is i)) (sym view-is i))
+      ∙ undo-save v effect (sound .rows) (rows-within s o (ticketOf c) (ticketOf (ticketDue (rules s) o c)) v ground)
+      (run-held s o (ticketOf c) (ticketOf (ticketDue (rules s) o c)) v sound ground)
+
+  pub acts-again : outcome v (rule s o (ticketOf (justBelow (ticketDue (rules s) o c))) (ticketOf (ticketDue (rules s) o c)) v) ≡ accept r w
+  acts-again = outcome-alike v _ _ (due-again s o c v ground) ∙ e
+
+  pub ticket-is : grants o ≡ true → (c < ticketDue (rules s) o c) × (ticketDue (rules s) o c ≤ lastTicket)
+  ticket-is g =
+      let below : c < lastTicket = grant-below s o (ticketOf c) (ticketOf 0) v ground g in
+      (omega (arith, due-grant s o c g), omega (arith, due-grant s o c g, below))
+
+pub lawful : (s : Settings) → Lawful (rules s)
+unfolding judged
+lawful s =
     record {
-      act-sound = λ o t v w r s e. rows-stay o t v w r s e;
-      undo-save = λ o t v w r s e. undo-saved o t v w r s e;
-      ticket-fits = λ o c v w r g e. (omega arith, ticket-fits o (suc c) v w r g e);
+      act-sound = λ o c v w r sound e. acts-sound s o c v w r sound e;
+      undo-save = λ o c v w r sound e. undoes s o c v w r sound e;
+      act-again = λ o c v w r sound e. acts-again s o c v w r sound e;
+      ticket-fits = λ o c v w r sound e g. ticket-is s o c v w r sound e g;
     }

@@ -1,22 +1,15 @@
--- `session::operations::sos` meets its contract. Assumes nothing.
-use mathlib.Core.Path.{refl}
-use Rattle.rules.specs.Rules.{Op, grants, counterAfter}
-use Rattle.session.proofs.OperationLaws.{op-bounded, op-committed}
+-- `session::operations::sos` meets its contract.
+use Rattle.rules.specs.Rules.{Op}
+use Rattle.session.proofs.OperationLaws.{committed}
 use borrow.Author.Needs.{needs}
 use Rattle.session.proofs.operations.sos.Statement.{statement}
 use Rattle.session.proofs.operations.sos.Tie as tie
 
-commit-as-counted-requires : tie.Need-commit-as-counted-requires
-commit-as-counted-requires c κs =
-    let a = c .before .before .before .before .args in
-    op-bounded (a .session .now) (Op.sos (a .loco2) (a .ticket2) (a .loco1) (a .ticket1) (a .grid)) _ (c .before .sos .ensures)
-
 returns : tie.Need-returns
-unfolding counterAfter grants
 returns c =
-    let a = c .before .before .before .before .before .before .before .args in
-    let made = c .before .before .commit-as-counted in
-    op-committed (a .session .now) (Op.sos (a .loco2) (a .ticket2) (a .loco1) (a .ticket1) (a .grid)) _ _ _ _ (c .before .before .before .before .sos .ensures) (made .ensures .0) (made .ensures .1) refl
+    let a = PATHARGS .args in
+    let made = c .before .before .commit in
+    committed (a .session .now) (Op.sos (a .loco2) (a .ticket2) (a .loco1) (a .ticket1) (a .grid)) _ _ _ _ (PATHUSUAL .usual .ensures) (PATHJ .sos .ensures) (made .ensures .0) (made .ensures .1)
 
 pub sos-spec : {M : Type 1} → statement M
-sos-spec = tie.close (tie.spec (λ c κs. search needs) commit-as-counted-requires (λ c. search needs) returns)
+sos-spec = tie.close (tie.spec ?)

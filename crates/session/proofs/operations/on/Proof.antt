@@ -1,0 +1,16 @@
+-- `session::operations::on` meets its contract.
+use Rattle.rules.specs.Deeds.{meant}
+use Rattle.rules.specs.Rules.{Op}
+use Rattle.session.proofs.OperationLaws.{committed}
+use borrow.Author.Needs.{needs}
+use Rattle.session.proofs.operations.on.Statement.{statement}
+use Rattle.session.proofs.operations.on.Tie as tie
+
+returns : tie.Need-returns
+returns c =
+    let a = PATHARGS .args in
+    let made = c .before .before .commit in
+    committed (a .session .now) (Op.on (a .loco) (a .ticket) (meant (a .deed) (a .flags .now))) _ _ _ _ (PATHUSUAL .usual .ensures) (PATHJ .on .ensures) (made .ensures .0) (made .ensures .1)
+
+pub on-spec : {M : Type 1} → statement M
+on-spec = tie.close (tie.spec ?)
