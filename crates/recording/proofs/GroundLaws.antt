@@ -1,92 +1,75 @@
--- NO CALL ANSWERS 24: that number is the recording's alone. Assumes nothing.
+-- NO CALL ANSWERS 24: that number is the recording's alone.
 use mathlib.Core.Bool.{Bool, true, false, cond}
-use mathlib.Core.Path.{_≡_}
+use mathlib.Core.Path.{_≡_, refl, sym, ap, _∙_, subst}
 use mathlib.Core.List.{List, [], _∷_}
-use Prim.Native.Nat.{ℕ, suc, _-_}
+use Prim.Native.Nat.{ℕ, _-_}
+use native.Mathlib.Decide.{ℕ-discrete}
 use native.Mathlib.Omega.{arith}
 use lib.Dec.{eqb, ltb}
-use lib.ListN.{length}
-use Rattle.modes.specs.Next.{nextStep, choose, refuses, refused, opens}
-use Rattle.transitions.specs.Table.{Transition}
+use Rattle.modes.specs.Next.{nextStep, choose, refuses, refused as stepRefused, opens}
 use Rattle.modes.specs.declared.Step.{Step}
+use Rattle.transitions.specs.Table.{Transition}
 use Rattle.trains.specs.Authority.{endOf}
-use Rattle.trains.specs.Kinds.{locoInRange}
-use Rattle.trains.specs.declared.found.Found.{Found}
-use Rattle.trains.specs.declared.found.Found.the-variants.{Nothing, Index}
-use Rattle.trains.specs.declared.kinds.Loco.{Loco}
 use Rattle.trains.specs.declared.kinds.Ticket.{Ticket}
 use Rattle.trains.specs.declared.record.Location.{Location}
 use Rattle.trains.specs.declared.record.Location.the-variants.{Nowhere, At}
 use Rattle.trains.specs.declared.record.Train.{Train}
-use Rattle.store.specs.Layout.{sessionBytes}
-use Rattle.store.specs.Stands.{View, findIn, viewOf, counterOf, keptOf}
-use Rattle.rulings.specs.Refusals.{wrongLength, tooFarBack}
-use Rattle.rulings.specs.Ruling.{acceptedWith, refusedWith, when, withFound}
-use Rattle.rulings.specs.Raising.{shared, measured, raised}
-use Rattle.rulings.specs.Registering.{granted, released}
-use Rattle.rulings.specs.Running.{endAnswer, changedTo, moved, authorised, signalled, cleared, stepped, flagged}
-use Rattle.rulings.specs.declared.ruling.Answer.{Answer}
-use Rattle.rulings.specs.declared.ruling.Ruling.{Ruling}
-use Rattle.rules.specs.Named.{nobody, inRow, namedIn, onNamed, sosRaised}
-use Rattle.rules.specs.Requesting.{placed, requested}
-use Rattle.rules.specs.Rules.{Op, request, release, flags, position, authority, danger, sos, clear, rule}
-use Rattle.rules.specs.Judged.{judged}
 use Rattle.replay.specs.Demand3.{Call, op, back}
-use Rattle.session.specs.Answers.{ifSession, answerTo, backAnswer}
+use Rattle.rules.specs.Deeds.{Deed, flags, position, authority, danger, clear, endAnswer, changedWith, changedIf, stepTaken, stepped, done}
+use Rattle.rules.specs.Named.{namedIn, nameGround}
+use Rattle.rules.specs.Raising.{sosGround}
+use Rattle.rules.specs.Refusals.{badRecord, wrongLength, tooFarBack}
+use Rattle.rules.specs.Registering.{ticketFor, requestGround}
+use Rattle.rules.specs.Rules.{Op, request, release, on, sos, groundOf, rule}
+use Rattle.rules.specs.Ruling.{acceptedWith, refusedWith, when, unless}
+use Rattle.rules.specs.View.{View}
+use Rattle.rules.specs.declared.named.Named.{Named}
+use Rattle.rules.specs.declared.ruling.Answer.{Answer}
+use Rattle.rules.specs.declared.ruling.Ruling.{Ruling}
+use Rattle.rules.specs.declared.settings.Settings.{Settings}
+use Rattle.order.proofs.RuleLaws.{accepted-exactly, refused-plain}
+use Rattle.store.specs.Layout.{isSession}
+use Rattle.store.specs.Stands.{viewOf, counterOf, keptOf}
+use Rattle.judging.specs.Judged.{judged}
+use Rattle.session.specs.Answers.{ofSession, answerTo, backAnswer}
+use Rattle.session.specs.Settings.{usual}
 use Rattle.standing.specs.Standing.{answered}
-use Rattle.recording.specs.Running.{badRecord}
 
--- a number that is not 24, and a ruling that does not answer it
+-- a number that is not 24
 abbrev Other : ℕ → Type 0
 Other n = n ≡ badRecord → ⊥
 
-abbrev OtherBy : Ruling → Type 0
-OtherBy r = Other (r .answer .answer)
+-- ---- the chains of grounds
 
--- ---- the parts of a rule
-
-other-if : (b : Bool) (x y : Answer) → Other (x .answer) → Other (y .answer) → Other (cond b x y .answer)
-other-if true x y p q = p
-other-if false x y p q = q
-
-other-when : (test : Bool) (ground : ℕ) (next : Ruling) → Other ground → OtherBy next → OtherBy (when test ground next)
+other-when : (test : Bool) (ground next : ℕ) → Other ground → Other next → Other (when test ground next)
 unfolding when
 other-when true ground next p q = p
 other-when false ground next p q = q
 
-other-found : (f : Found) (ground : ℕ) (next : ℕ → Ruling) → Other ground → ((k : ℕ) → OtherBy (next k)) → OtherBy (withFound f ground next)
-unfolding withFound
-other-found Nothing ground next p q = p
-other-found (Index k) ground next p q = q k
+other-unless : (test : Bool) (ground next : ℕ) → Other ground → Other next → Other (unless test ground next)
+unfolding unless
+other-unless true ground next p q = q
+other-unless false ground next p q = p
 
-row-other : (v : View) (f : Found) → Other (inRow v f .answer)
-unfolding inRow
-row-other v Nothing = λ e. omega arith
-row-other v (Index k) = λ e. omega arith
+name-other : (n : Named) (next : ℕ) → Other next → Other (nameGround n next)
+unfolding nameGround
+name-other n next q = other-unless _ _ _ (λ e. omega arith) (other-unless _ _ _ (λ e. omega arith) q)
 
-either-other : (b : Bool) (v : View) (f : Found) → Other (cond b (inRow v f) (nobody 10) .answer)
-either-other true v f = row-other v f
-either-other false v f = λ e. omega arith
+-- ---- deeds
 
-named-other : (loco : Loco) (ticket : Ticket) (v : View) → Other (namedIn loco ticket v .answer)
-unfolding namedIn
-named-other loco ticket v = either-other (locoInRange loco) v (findIn v _)
-
-other-named : (loco : Loco) (ticket : Ticket) (v : View) (next : ℕ → Train → Ruling) → ((row : ℕ) (t : Train) → OtherBy (next row t))
-    → OtherBy (onNamed (namedIn loco ticket v) next)
-unfolding onNamed
-other-named loco ticket v next q = other-when _ _ _ (named-other loco ticket v) (q _ _)
-
--- ---- each rule
+other-if : (b : Bool) (x y : Answer) → Other (x .answer) → Other (y .answer) → Other (cond b x y .answer)
+other-if true x y p q = p
+other-if false x y p q = q
 
 end-other : (p : Location) → Other (endAnswer p .answer)
 unfolding endAnswer
 end-other Nowhere = λ e. omega arith
 end-other (At end) = λ e. omega arith
 
-changed-other : (row : ℕ) (t : Train) → OtherBy (changedTo row t)
-unfolding changedTo
-changed-other row t = end-other (endOf t)
+changed-other : (test : Bool) (ground : ℕ) (before after : Train) → Other ground → Other (changedIf test ground before after .answer .answer)
+unfolding changedIf
+changed-other true ground before after q = end-other (endOf after)
+changed-other false ground before after q = q
 
 choice-other : (m : ℕ) (xs : List Transition) → Other (choose m xs .answer)
 unfolding choose
@@ -97,52 +80,68 @@ step-if : (b : Bool) (s t : Step) → Other (s .answer) → Other (t .answer) �
 step-if true s t p q = p
 step-if false s t p q = q
 
-step-other : (m : ℕ) (fs : List ℕ) → Other (nextStep m fs .answer)
+next-other : (m : ℕ) (fs : List ℕ) → Other (nextStep m fs .answer)
 unfolding nextStep
-step-other m fs = step-if (refuses m fs) refused (choose m (opens m fs)) (λ e. omega arith) (choice-other m (opens m fs))
+next-other m fs = step-if (refuses m fs) stepRefused (choose m (opens m fs)) (λ e. omega arith) (choice-other m (opens m fs))
 
-raised-other : (grid two : ℕ) (l2 : Train) (one : ℕ) (l1 : Train) → OtherBy (raised grid two l2 one l1)
-unfolding raised measured shared
-raised-other grid two l2 one l1 =
-    other-when _ _ _ (λ e. omega arith)
-    (other-when _ _ _ (λ e. omega arith)
-    (other-when _ _ _ (λ e. omega arith)
-    (other-when _ _ _ (λ e. omega arith)
-    (other-when _ _ _ (λ e. omega arith) (other-when _ _ _ (λ e. omega arith) (λ e. omega arith))))))
+step-other : (t : Train) (s : Step) → Other (s .answer) → Other (stepped t s .answer .answer)
+unfolding stepped
+step-other t s q = go (eqb (s .answer) 0)
+  where
+    go : (b : Bool)
+        → Other (cond b (changedWith (acceptedWith (s .mode) (s .priority) (s .tie)) (stepTaken t s)) (changedWith (refusedWith (s .answer)) t) .answer .answer)
+    go true = λ e. omega arith
+    go false = q
 
-request-other : (loco : Loco) (bytes t : ℕ) (v : View) → OtherBy (requested loco bytes t v)
-unfolding requested placed granted
-request-other loco bytes t v =
-    other-when _ _ _ (λ e. omega arith)
-    (other-when _ _ _ (λ e. omega arith)
-    (other-when _ _ _ (λ e. omega arith)
-    (other-found _ _ _ (λ e. omega arith)
-    (λ row. other-when _ _ _ (λ e. omega arith) (other-found _ _ _ (λ e. omega arith) (λ start e. omega arith))))))
-
-rule-other : (o : Op) (t : ℕ) (v : View) → OtherBy (rule o t v)
-unfolding rule released moved authorised signalled cleared flagged stepped sosRaised
-rule-other (request loco bytes) t v = request-other loco bytes t v
-rule-other (release loco ticket) t v = other-named loco ticket v _ (λ row u e. omega arith)
-rule-other (flags loco ticket fs) t v = other-named loco ticket v _ (λ row u. other-when _ _ _ (step-other _ fs) (λ e. omega arith))
-rule-other (position loco ticket front rear) t v = other-named loco ticket v _ (λ row u. other-when _ _ _ (λ e. omega arith) (changed-other row _))
-rule-other (authority loco ticket end) t v = other-named loco ticket v _ (λ row u. other-when _ _ _ (λ e. omega arith) (changed-other row _))
-rule-other (danger loco ticket location) t v = other-named loco ticket v _ (λ row u. other-when _ _ _ (λ e. omega arith) (changed-other row _))
-rule-other (sos loco2 ticket2 loco1 ticket1 grid) t v =
-    other-when _ _ _ (λ e. omega arith)
-    (other-when _ _ _ (λ e. omega arith)
-    (other-named loco2 ticket2 v _ (λ two l2. other-named loco1 ticket1 v _ (λ one l1. raised-other grid two l2 one l1))))
-rule-other (clear loco ticket other) t v = other-named loco ticket v _ (λ row u. other-when _ _ _ (λ e. omega arith) (changed-other row _))
+deed-other : (d : Deed) (t : Train) → Other (done d t .answer .answer)
+unfolding done
+deed-other (flags fs) t = step-other t (nextStep (t .mode) fs) (next-other (t .mode) fs)
+deed-other (position front rear) t = changed-other _ _ _ _ (λ e. omega arith)
+deed-other (authority end) t = changed-other _ _ _ _ (λ e. omega arith)
+deed-other (danger location) t = changed-other _ _ _ _ (λ e. omega arith)
+deed-other (clear other) t = changed-other _ _ _ _ (λ e. omega arith)
 
 -- ---- the law
 
+-- no ground of a rule is 24
+ground-other : (s : Settings) (o : Op) (c : Ticket) (v : View) → Other (groundOf s o c v)
+unfolding groundOf requestGround sosGround
+ground-other s (request loco bytes) c v =
+    other-unless _ _ _ (λ e. omega arith)
+    (other-unless _ _ _ (λ e. omega arith)
+    (other-when _ _ _ (λ e. omega arith)
+    (other-unless _ _ _ (λ e. omega arith)
+    (other-unless _ _ _ (λ e. omega arith) (other-unless _ _ _ (λ e. omega arith) (λ e. omega arith))))))
+ground-other s (release loco ticket) c v = name-other (namedIn loco ticket v) 0 (λ e. omega arith)
+ground-other s (on loco ticket deed) c v = name-other (namedIn loco ticket v) _ (deed-other deed (namedIn loco ticket v .train))
+ground-other s (sos loco2 ticket2 loco1 ticket1 grid) c v =
+    other-unless _ _ _ (λ e. omega arith)
+    (other-unless _ _ _ (λ e. omega arith)
+    (other-unless _ _ _ (λ e. omega arith)
+    (other-unless _ _ _ (λ e. omega arith)
+    (other-when _ _ _ (λ e. omega arith)
+    (other-unless _ _ _ (λ e. omega arith)
+    (other-when _ _ _ (λ e. omega arith)
+    (other-when _ _ _ (λ e. omega arith)
+    (other-when _ _ _ (λ e. omega arith) (other-when _ _ _ (λ e. omega arith) (λ e. omega arith))))))))))
+
+-- so no ruling answers it
+ruling-other : (s : Settings) (o : Op) (c t : Ticket) (v : View) → Other (rule s o c t v .answer .answer)
+ruling-other s o c t v = by (ℕ-discrete (groundOf s o c v) 0)
+  where
+    by : Dec (groundOf s o c v ≡ 0) → Other (rule s o c t v .answer .answer)
+    by (yes e) = rw (accepted-exactly s o c t v .1 e) (λ e. omega arith)
+    by (no n) = subst (λ (r : Ruling). Other (r .answer .answer)) (sym (refused-plain s o c t v n)) (ground-other s o c v)
+
+-- nor any call
 pub answered-other : (bs : List ℕ) (c : Call Op) → answered bs c .answer ≡ badRecord → ⊥
-unfolding answered answerTo backAnswer ifSession judged
+unfolding answered answerTo backAnswer ofSession judged
 answered-other bs (op o) =
-    other-if (eqb (length bs) sessionBytes) (judged bs o .answer) (refusedWith wrongLength) (rule-other o (suc (counterOf bs)) (viewOf bs))
-    (λ e. omega arith)
+    other-if (isSession bs) (judged usual bs o .answer) (refusedWith wrongLength)
+    (ruling-other usual o (counterOf bs) (ticketFor (counterOf bs)) (viewOf bs)) (λ e. omega arith)
 answered-other bs (back k) =
     let far : Answer = refusedWith tooFarBack in
     let near : Answer = acceptedWith (keptOf bs - k) 0 0 in
-    other-if (eqb (length bs) sessionBytes) (cond (ltb (keptOf bs) k) far near) (refusedWith wrongLength)
+    other-if (isSession bs) (cond (ltb (keptOf bs) k) far near) (refusedWith wrongLength)
     (other-if (ltb (keptOf bs) k) far near (λ e. omega arith) (λ e. omega arith))
     (λ e. omega arith)
