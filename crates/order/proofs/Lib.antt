@@ -5,3 +5,5 @@ pub mod MarkLaws
 pub mod DeedLaws
 pub mod AfterLaws
 pub mod SoundLaws
+pub mod OverrideLaws
+pub mod TrainLaws

@@ -1,15 +1,14 @@
--- One row changed: what holds of every row, and of every two, where it holds of the changed row and of the others.
-use mathlib.Core.Path.{_≡_, refl, sym, ap, _∙_, subst}
-use mathlib.Core.List.{List, [], _∷_}
+-- One row changed, or one order: what holds of each, and of every two, where it holds of the changed one and of the others.
+use mathlib.Core.Path.{_≡_, refl}
+use mathlib.Core.List.{List}
 use mathlib.Core.Logic.{by-cases}
-use Prim.Native.Nat.{ℕ, zero, suc, _<_}
+use Prim.Native.Nat.{ℕ, _<_}
 use native.Mathlib.Decide.{ℕ-discrete}
 use lib.ListN.{length, getD, set}
 use lib.Seq.{getD-set-same, getD-set-other}
-use Rattle.trains.specs.Record.{blankTrain}
 use Rattle.trains.specs.declared.record.Train.{Train}
-use Rattle.rules.specs.View.{View, rowIn}
-use Rattle.order.specs.Sound.{Live, NoTwo}
+use Rattle.rules.specs.View.{View}
+use Rattle.order.specs.Sound.{NoTwo}
 
 -- what holds of the element set, and of every other as it was, holds of every element
 pub set-each : {A : Type 0} (P : ℕ → A → Type 0) (d : A) (l : List A) (i : ℕ) (a : A) → i < length l → P i a
@@ -17,22 +16,19 @@ pub set-each : {A : Type 0} (P : ℕ → A → Type 0) (d : A) (l : List A) (i :
 set-each P d l i a h this others k =
     by-cases (ℕ-discrete k i) (λ e. rw e (rw (getD-set-same l i a d h) this)) (λ n. rw (getD-set-other l i k a d n) (others k n))
 
+-- no two that count share something, where the element set shares it with no other
+pub no-two-set : {A : Type 0} (Counts : A → Type 0) (Share : A → A → Type 0) → ((a b : A) → Share a b → Share b a)
+    → (d : A) (l : List A) (i : ℕ) (u : A) → i < length l
+    → ((k : ℕ) → (k ≡ i → ⊥) → Counts u → Counts (getD l k d) → Share u (getD l k d) → ⊥)
+    → NoTwo Counts Share (λ k. getD l k d) → NoTwo Counts Share (λ k. getD (set l i u) k d)
+no-two-set {A} Counts Share turned d l i u h alone apart j k =
+    set-each (λ (j : ℕ) (a : A). Counts a → Counts (getD (set l i u) k d) → Share a (getD (set l i u) k d) → j ≡ k) d l i u h
+    (set-each (λ (k : ℕ) (b : A). Counts u → Counts b → Share u b → i ≡ k) d l i u h (λ x y s. refl) (λ k n x y s. absurd (alone k n x y s)) k)
+    (λ j n.
+    set-each (λ (k : ℕ) (b : A). Counts (getD l j d) → Counts b → Share (getD l j d) b → j ≡ k) d l i u h
+    (λ x y s. absurd (alone j n y x (turned _ _ s))) (λ k m. apart j k) k)
+    j
+
 -- the view with one row changed, and a book
 abbrev pub rowSet : View → ℕ → Train → List ℕ → View
 rowSet v i u book = record { rows = set (v .rows) i u; book = book }
-
--- no two rows share something, where the changed row shares it with no other
-pub no-two-set : (Share : Train → Train → Type 0) → ((a b : Train) → Share a b → Share b a)
-    → (v : View) (i : ℕ) (u : Train) (book : List ℕ) → i < length (v .rows)
-    → ((k : ℕ) → (k ≡ i → ⊥) → Live u → Live (rowIn v k) → Share u (rowIn v k) → ⊥)
-    → NoTwo Share v → NoTwo Share (rowSet v i u book)
-no-two-set Share turned v i u book h alone apart j k =
-    set-each (λ (j : ℕ) (a : Train). Live a → Live (row k) → Share a (row k) → j ≡ k) blankTrain (v .rows) i u h
-    (set-each (λ (k : ℕ) (b : Train). Live u → Live b → Share u b → i ≡ k) blankTrain (v .rows) i u h (λ l m s. refl) (λ k n l m s. absurd (alone k n l m s)) k)
-    (λ j n.
-    set-each (λ (k : ℕ) (b : Train). Live (rowIn v j) → Live b → Share (rowIn v j) b → j ≡ k) blankTrain (v .rows) i u h
-    (λ l m s. absurd (alone j n m l (turned _ _ s))) (λ k m. apart j k) k)
-    j
-  where
-    row : ℕ → Train
-    row k = getD (set (v .rows) i u) k blankTrain

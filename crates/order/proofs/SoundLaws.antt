@@ -61,7 +61,7 @@ module _ (v : View) (i : ℕ) (u : Train) (sound : Sound v) (within : i < rowCou
         rows = length-set (v .rows) i u ∙ sound .rows;
         book = l;
         marked = set-each (λ (k : ℕ) (t : Train). (slot : ℕ) → Live t → Has t slot → markOf book (slotOf slot) ≡ 1) blankTrain (v .rows) i u row-there mine others;
-        apart = no-two-set ShareSlot (λ a b s. (s .0, s .2, s .1)) v i u book row-there alone (sound .apart);
+        apart = no-two-set Live ShareSlot (λ a b s. (s .0, s .2, s .1)) blankTrain (v .rows) i u row-there alone (sound .apart);
       }
 
   -- the same train in the same slots

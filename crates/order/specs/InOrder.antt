@@ -52,6 +52,14 @@ pub record TicketFits (counter ticket : Ticket) : Type 0 where
   pub last : ticket .0 ≤ lastTicket
   pub issued : ticket .0 ≤ counter .0
 
+-- a place that is not free: there is no order under ticket 0
+abbrev pub IsOrder : Order → Type 0
+IsOrder o = sameTicket (o .other) noTicket ≡ false
+
+-- two orders are under one ticket
+abbrev pub ShareOther : Order → Order → Type 0
+ShareOther a b = sameTicket (a .other) (b .other) ≡ true
+
 -- the orders of a train with a ticket, where the counter stands here
 pub record OrdersFit (counter own : Ticket) (os : List Order) : Type 0 where
   -- there are four places
@@ -60,8 +68,8 @@ pub record OrdersFit (counter own : Ticket) (os : List Order) : Type 0 where
   pub issued : (i : ℕ) → TicketFits counter (orderAt os i .other)
   -- no order is under the train's own ticket
   pub other : (i : ℕ) → sameTicket (orderAt os i .other) own ≡ false
-  -- no two are under one ticket; under ticket 0 there is no order
-  pub once : (i j : ℕ) → sameTicket (orderAt os i .other) noTicket ≡ false → sameTicket (orderAt os i .other) (orderAt os j .other) ≡ true → i ≡ j
+  -- no two orders are under one ticket
+  pub once : NoTwo IsOrder ShareOther (orderAt os)
   -- a free place is blank
   pub free : (i : ℕ) → sameTicket (orderAt os i .other) noTicket ≡ true → orderAt os i ≡ noOrder
   -- every limit is in its range
@@ -117,9 +125,9 @@ pub record InOrder (counter : Ticket) (v : View) : Type 0 where
   -- a slot that is taken has a train
   pub taken : (slot : ℕ) → isTaken (v .book) (slotOf slot) ≡ true → Holder v slot
   -- no two trains share a loco
-  pub locos : NoTwo ShareLoco v
+  pub locos : NoTwo Live ShareLoco (rowIn v)
   -- no two trains share a ticket
-  pub tickets : NoTwo ShareTicket v
+  pub tickets : NoTwo Live ShareTicket (rowIn v)
   -- every field of a train is in its range
   pub trains : (i : ℕ) → Live (rowIn v i) → TrainFits counter (rowIn v i)
   -- an empty row is blank

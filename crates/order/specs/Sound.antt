@@ -10,7 +10,7 @@ use Rattle.trains.specs.declared.record.Train.{Train}
 use Rattle.rules.specs.Slots.{slotOf}
 use Rattle.rules.specs.View.{View, rowIn, markOf}
 
--- a row holds a train
+-- a row holds a train; a row that is none of the 24 holds none
 abbrev pub Live : Train → Type 0
 Live t = isEmpty t ≡ false
 
@@ -29,9 +29,9 @@ pub record Has (t : Train) (slot : ℕ) : Type 0 where
   pub book : InBook slot
   pub run : InRun (t .start .0) (t .slots) slot
 
--- no two rows hold trains that share something; a row that is none of the 24 holds no train
-abbrev pub NoTwo : (Train → Train → Type 0) → View → Type 0
-NoTwo Share v = (i j : ℕ) → Live (rowIn v i) → Live (rowIn v j) → Share (rowIn v i) (rowIn v j) → i ≡ j
+-- of numbered things, no two that count share something
+abbrev pub NoTwo : {A : Type 0} → (A → Type 0) → (A → A → Type 0) → (ℕ → A) → Type 0
+NoTwo Counts Share at = (i j : ℕ) → Counts (at i) → Counts (at j) → Share (at i) (at j) → i ≡ j
 
 -- two trains share a slot
 abbrev pub ShareSlot : Train → Train → Type 0
@@ -46,4 +46,4 @@ pub record Sound (v : View) : Type 0 where
   -- every slot of a live row's train is marked
   pub marked : (i slot : ℕ) → Live (rowIn v i) → Has (rowIn v i) slot → markOf (v .book) (slotOf slot) ≡ 1
   -- no two live rows share a slot
-  pub apart : NoTwo ShareSlot v
+  pub apart : NoTwo Live ShareSlot (rowIn v)
