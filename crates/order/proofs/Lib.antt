@@ -7,3 +7,4 @@ pub mod AfterLaws
 pub mod SoundLaws
 pub mod OverrideLaws
 pub mod TrainLaws
+pub mod OrderLaws

@@ -38,10 +38,10 @@ use Rattle.order.proofs.MarkLaws.{marked-length, marked-outside, marked
 use Rattle.order.proofs.RowLaws.{set-each, rowSet, no-two-set}
 
 -- the same train is live, and has the same slots
-live-same : {u t : Train} → SameTrain u t → Live u → Live t
+pub live-same : {u t : Train} → SameTrain u t → Live u → Live t
 live-same e l = rw (← e .loco) l
 
-has-same : {u t : Train} {slot : ℕ} → SameTrain u t → Has u slot → Has t slot
+pub has-same : {u t : Train} {slot : ℕ} → SameTrain u t → Has u slot → Has t slot
 has-same e h = record { book = h .book; run = rw (← e .start, ← e .slots) (h .run) }
 
 -- ---- one row changed

@@ -4,11 +4,12 @@ use mathlib.Core.Bool.{Bool, true, false, cond, _||_}
 use mathlib.Core.List.{List}
 use Prim.Native.Nat.{ℕ, _+_, _≤_, _<_}
 use lib.Dec.{eqb}
-use lib.ListN.{length, getD}
+use lib.ListN.{length, getD, replicate}
 use Rattle.transitions.specs.Names.{SB, FS, OV, OS, PT, IS}
 use Rattle.trains.specs.Kinds.{lastLoco, lastTicket, lastSlot, sameLoco, sameTicket}
 use Rattle.trains.specs.Ranges.{lastLocation}
 use Rattle.trains.specs.Record.{noTicket, noOrder, orderCount, orderAt, blankTrain, isEmpty}
+use Rattle.trains.specs.Sought.{rowCount}
 use Rattle.trains.specs.declared.kinds.Ticket.{Ticket}
 use Rattle.trains.specs.declared.record.Limit.{Limit}
 use Rattle.trains.specs.declared.record.Limit.the-variants.{Bare, To}
@@ -132,3 +133,7 @@ pub record InOrder (counter : Ticket) (v : View) : Type 0 where
   pub trains : (i : ℕ) → Live (rowIn v i) → TrainFits counter (rowIn v i)
   -- an empty row is blank
   pub blank : (i : ℕ) → isEmpty (rowIn v i) ≡ true → rowIn v i ≡ blankTrain
+
+-- the view at the start: 24 blank rows, and a free book
+unfoldable pub startView : View
+startView = record { rows = replicate rowCount blankTrain; book = replicate lastSlot 0 }
