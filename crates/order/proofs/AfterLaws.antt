@@ -1,8 +1,7 @@
--- THE VIEW AFTER AN ACCEPTED OPERATION: one row changed and a run of slots marked, or two rows changed for an SOS. What bears these, bears every
--- operation.
+-- THE VIEW AFTER AN ACCEPTED OPERATION: one row changed and a run of slots marked, or two rows changed for an SOS. What these keep, every
+-- operation keeps.
 use mathlib.Core.Path.{_≡_, sym, subst, subst₂}
 use mathlib.Core.Bool.{Bool, true, false}
-use mathlib.Core.List.{List}
 use Prim.Native.Nat.{ℕ, _<_}
 use native.Mathlib.Omega.{arith}
 use lib.ListN.{length, set, length-set}
@@ -19,16 +18,16 @@ use Rattle.rules.specs.Named.{namedIn}
 use Rattle.rules.specs.Raising.{shareFor1, shareFor2, shareTaken, raised}
 use Rattle.rules.specs.Registering.{granted, released}
 use Rattle.rules.specs.Rules.{Op, request, release, on, sos, groundOf, doneBy}
-use Rattle.rules.specs.Slots.{slotOf, slotsFor, lowestRun, startOf}
+use Rattle.rules.specs.Slots.{slotOf, slotsFor}
 use Rattle.rules.specs.View.{View, rowIn}
 use Rattle.rules.specs.declared.named.Named.{Named}
 use Rattle.rules.specs.declared.settings.Settings.{Settings}
 use Rattle.order.specs.Sound.{Live}
-use Rattle.order.proofs.Facts.{Requests, requests, rowFor, runFor, Names, names, Raises, raises}
+use Rattle.order.proofs.Facts.{Requests, requests, rowFor, runFor, Names, names, raises}
 use Rattle.order.proofs.RowLaws.{rowSet}
 
 -- one row changed and a run marked: no other row is changed
-one-row : (v : View) (row : ℕ) (t : Train) (start : Slot) (n : ℕ) (taken : Bool) → length (v .rows) ≡ rowCount
+pub one-row : (v : View) (row : ℕ) (t : Train) (start : Slot) (n : ℕ) (taken : Bool) → length (v .rows) ≡ rowCount
     → applied v (rowAndRun row t start n taken) ≡ rowSet v row t (marked (v .book) (start .0) n (markFor taken))
 unfolding applied
 one-row v row t start n taken l = λ j. record {
@@ -59,8 +58,8 @@ withSos v margin grid i j =
     let t1 : Train = rowIn v j in
     rowSet (rowSet v i (shareTaken (shareFor2 margin grid t2 t1) (t1 .ticket) t2) (v .book)) j (shareTaken (shareFor1 grid t2 t1) (t2 .ticket) t1) (v .book)
 
--- what holds of the counter and the view after each of these
-pub record Bears (P : Ticket → View → Type 0) (s : Settings) (c t : Ticket) (v : View) : Type 0 where
+-- each of these keeps what is to hold of the counter and the view
+pub record OpsKeep (P : Ticket → View → Type 0) (s : Settings) (c t : Ticket) (v : View) : Type 0 where
   pub grant : (loco : Loco) (bytes : ℕ) → Requests (s .carries) loco bytes c v → P t (withGrant v (s .carries) loco bytes t)
   pub release : (i : ℕ) → i < rowCount → Live (rowIn v i) → P c (withRelease v i)
   pub deed : (i : ℕ) → i < rowCount → Live (rowIn v i) → (d : Deed) → P c (withDeed v i d)
@@ -71,7 +70,7 @@ pub live-there : {loco : Loco} {ticket : Ticket} {v : View} {n : Named} → Name
 live-there f = subst Live (f .train) (f .has .live)
 
 -- HOLDS AFTER EVERY ACCEPTED OPERATION
-pub after-op : (P : Ticket → View → Type 0) (s : Settings) (o : Op) (c t : Ticket) (v : View) → length (v .rows) ≡ rowCount → Bears P s c t v
+pub after-op : (P : Ticket → View → Type 0) (s : Settings) (o : Op) (c t : Ticket) (v : View) → length (v .rows) ≡ rowCount → OpsKeep P s c t v
     → groundOf s o c v ≡ 0 → P (doneBy s o c t v .counter) (applied v (doneBy s o c t v .effect))
 unfolding groundOf doneBy granted released raised applied markFor marked
 after-op P s (request loco bytes) c t v l b e =

@@ -9,13 +9,13 @@ use Rattle.modes.specs.Next.{nextStep}
 use Rattle.modes.specs.declared.Step.{Step}
 use Rattle.sos.specs.declared.shares.Share.{Share}
 use Rattle.sos.specs.declared.shares.Share.the-variants.{Nothing, NoPosition, Order}
-use Rattle.trains.specs.Changes.{leftFor, withMode, withPosition, withAuthority, withDanger}
-use Rattle.trains.specs.Orders.{hasOrder, orderGone, orderCleared}
+use Rattle.trains.specs.Changes.{withMode, withPosition, withAuthority, withDanger}
+use Rattle.trains.specs.Orders.{hasOrder, orderCleared}
 use Rattle.trains.specs.Ranges.{isPosition, isNoneOrLocation, locationFrom}
 use Rattle.trains.specs.declared.kinds.Ticket.{Ticket}
 use Rattle.trains.specs.declared.record.Train.{Train}
 use Rattle.trains.proofs.ChangeLaws.{SameTrain, same-train}
-use Rattle.rules.specs.Deeds.{Deed, flags, position, authority, danger, clear, endAnswer, changedWith, changedIf, stepTaken, stepped, done}
+use Rattle.rules.specs.Deeds.{Deed, flags, position, authority, danger, clear, changedWith, changedIf, stepTaken, stepped, done}
 use Rattle.rules.specs.Raising.{shareTaken}
 use Rattle.rules.specs.Ruling.{acceptedWith, refusedWith}
 
@@ -40,8 +40,8 @@ module _ (P : Train → Type 0) (t : Train) (before : P t) where
       outer true e = inner (eqb (s .priority) 0) refl (eqb-true (s .answer) 0 e)
       outer false e = before
 
--- what each deed may make of a train, where something holds of it
-pub record Bears (P : Train → Type 0) (t : Train) : Type 0 where
+-- each change that a deed may make keeps what is to hold of a train
+pub record DeedsKeep (P : Train → Type 0) (t : Train) : Type 0 where
   pub as-it-was : P t
   pub in-mode : (fs : List ℕ) → nextStep (t .mode) fs .answer ≡ 0 → (nextStep (t .mode) fs .priority ≡ 0 → ⊥) → P (withMode t (nextStep (t .mode) fs .mode))
   pub at-position : (front rear : ℕ) → isPosition front rear ≡ true → P (withPosition t front rear)
@@ -50,7 +50,7 @@ pub record Bears (P : Train → Type 0) (t : Train) : Type 0 where
   pub without-order : (other : Ticket) → hasOrder t other ≡ true → P (orderCleared t other)
 
 -- then it holds of the train after any deed
-pub after-deed : (P : Train → Type 0) (t : Train) → Bears P t → (d : Deed) → P (done d t .train)
+pub after-deed : (P : Train → Type 0) (t : Train) → DeedsKeep P t → (d : Deed) → P (done d t .train)
 unfolding done
 after-deed P t b (flags fs) = step-taken P t (b .as-it-was) (nextStep (t .mode) fs) (b .in-mode fs)
 after-deed P t b (position front rear) = changed-if P t (b .as-it-was) _ _ _ (b .at-position front rear)

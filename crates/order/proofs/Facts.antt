@@ -1,18 +1,15 @@
 -- THE RULES, WALKED ONCE: what it says of an operation and a view that there is no ground to refuse it. Every other law cites these facts.
-use mathlib.Core.Path.{_≡_, refl, sym, ap, _∙_}
+use mathlib.Core.Path.{_≡_, refl}
 use mathlib.Core.Bool.{Bool, true, false, not, _&&_, true≢false, false≢true, and-eq-true-iff}
 use mathlib.Core.List.{List}
 use Prim.Native.Nat.{ℕ, zero, suc, _+_, _-_, _*_, _≤_, _<_}
 use native.Mathlib.Nat.{le-div-iff-mul-le, div-lt-iff-lt-mul, one-mul, eq-or-lt-of-le}
 use native.Mathlib.Omega.{arith}
 use mathlib.Core.Logic.{⊎-elim}
-use lib.Dec.{eqb}
 use borrow.Author.Tests.{ltb-true, eqb-true, eqb-false, not-true, not-false}
-use Rattle.sos.specs.Grids.{NA}
 use Rattle.trains.specs.Found.{first, isFound}
-use Rattle.trains.specs.Kinds.{lastLoco, lastSlot, lastTicket, locoInRange, slotInRange, sameLoco, sameTicket, ticketInRange}
-use Rattle.trains.specs.Ranges.{isGrid}
-use Rattle.trains.specs.Record.{isEmpty, noLoco}
+use Rattle.trains.specs.Kinds.{lastLoco, lastSlot, lastTicket, slotInRange, sameLoco, sameTicket, ticketInRange}
+use Rattle.trains.specs.Record.{isEmpty}
 use Rattle.trains.specs.Sought.{rowCount, holdsLoco, isSought}
 use Rattle.trains.specs.declared.found.Found.{Found}
 use Rattle.trains.specs.declared.found.Found.the-variants.{Nothing, Index}
@@ -24,18 +21,15 @@ use Rattle.trains.specs.declared.sought.Sought.{Sought}
 use Rattle.trains.specs.declared.sought.Sought.the-variants.{Pair, Number, Empty}
 use Rattle.trains.proofs.FoundLaws.{Before, first-below, first-true, first-before}
 use Rattle.trains.proofs.RangeLaws.{one-to}
-use Rattle.rules.specs.Deeds.{Deed, done}
 use Rattle.rules.specs.Named.{inRow, namedIn, nameGround}
-use Rattle.rules.specs.Raising.{lacksPosition, lacksPlace, shareFor1, shareFor2, sosGround}
+use Rattle.rules.specs.Raising.{sosGround}
 use Rattle.rules.specs.Registering.{requestGround, rowOfFound}
-use Rattle.rules.specs.Ruling.{when, unless}
 use Rattle.rules.specs.Slots.{mostSlots, isRequest, slotsFor, slotOf, isFree, isRun, runFrom, lowestRun, isRunFound, startOf}
 use Rattle.rules.specs.View.{View, rowIn, markOf, isTaken, soughtIn, findIn}
 use Rattle.rules.specs.declared.named.Named.{Named}
-use Rattle.rules.specs.declared.slots.FreeRun.{FreeRun}
-use Rattle.rules.specs.declared.slots.FreeRun.the-variants.{NoRun, From}
-use Rattle.rules.proofs.ChainLaws.{passed, passed-unless, neither}
-use Rattle.order.specs.Sound.{Live, InBook, InRun}
+use Rattle.rules.proofs.ChainLaws.{passed, passed-unless}
+use Rattle.order.specs.Scar.{Called}
+use Rattle.order.specs.Sound.{InBook, InRun}
 
 -- ---- searches
 
@@ -158,12 +152,6 @@ requests perSlot loco bytes counter v e =
     }
 
 -- ---- a train that is named
-
--- a train has a loco and a ticket
-pub record Called (loco : Loco) (ticket : Ticket) (t : Train) : Type 0 where
-  pub live : Live t
-  pub by-loco : sameLoco (t .loco) loco ≡ true
-  pub by-ticket : sameTicket (t .ticket) ticket ≡ true
 
 called : (loco : Loco) (ticket : Ticket) (t : Train) → isSought (Pair loco ticket) t ≡ true → Called loco ticket t
 unfolding isSought holdsLoco

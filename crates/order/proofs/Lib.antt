@@ -8,3 +8,4 @@ pub mod SoundLaws
 pub mod OverrideLaws
 pub mod TrainLaws
 pub mod OrderLaws
+pub mod ScarLaws

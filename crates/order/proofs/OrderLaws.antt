@@ -1,8 +1,8 @@
 -- COUNTER AND VIEW STAY IN ORDER: at the start, after every accepted operation, and where the counter is higher.
-use mathlib.Core.Path.{_≡_, refl, sym, ap, _∙_, subst}
-use mathlib.Core.Bool.{Bool, true, false, not, _&&_, true≢false, and-eq-true-iff}
+use mathlib.Core.Path.{_≡_, refl, sym, _∙_, subst}
+use mathlib.Core.Bool.{true, false, not, true≢false, and-eq-true-iff}
 use mathlib.Core.List.{List, [], _∷_}
-use mathlib.Core.Logic.{by-cases, _⊎_, inl, inr, ⊎-elim}
+use mathlib.Core.Logic.{by-cases}
 use Prim.Native.Nat.{ℕ, zero, suc, _+_, _-_, _≤_, _<_}
 use native.Mathlib.Decide.{decLe, decLt}
 use native.Mathlib.Omega.{arith}
@@ -10,18 +10,16 @@ use lib.Dec.{eqb}
 use lib.ListN.{length, getD, replicate, length-replicate, getD-replicate, List·getD-eq-default}
 use lib.Seq.{getD-set-same}
 use borrow.Author.Tests.{eqb-true, eqb-false, eq-eqb, ne-eqb, not-true}
-use Rattle.transitions.specs.Names.{SB}
-use Rattle.trains.specs.Kinds.{lastLoco, lastTicket, lastSlot, slotInRange, sameLoco, sameTicket}
-use Rattle.trains.specs.Record.{noTicket, noOrder, orderAt, blankTrain, freshTrain, isEmpty}
+use Rattle.trains.specs.Kinds.{lastLoco, lastTicket, lastSlot, slotInRange, sameLoco}
+use Rattle.trains.specs.Record.{noOrder, orderAt, blankTrain, freshTrain, isEmpty}
 use Rattle.trains.specs.Sought.{rowCount, holdsLoco}
 use Rattle.trains.specs.declared.kinds.Loco.{Loco}
 use Rattle.trains.specs.declared.kinds.Slot.{Slot}
 use Rattle.trains.specs.declared.kinds.Ticket.{Ticket}
-use Rattle.trains.specs.declared.record.Order.{Order}
 use Rattle.trains.specs.declared.record.Train.{Train}
 use Rattle.trains.proofs.ChangeLaws.{SameTrain}
 use Rattle.trains.proofs.RangeLaws.{one-to}
-use Rattle.rules.specs.Deeds.{Deed, done}
+use Rattle.rules.specs.Deeds.{done}
 use Rattle.rules.specs.Effect.{marked, applied}
 use Rattle.rules.specs.Raising.{cellFor, shareFor1, shareFor2, shareTaken}
 use Rattle.rules.specs.Registering.{ticketOf, ticketFor}
@@ -30,18 +28,15 @@ use Rattle.rules.specs.Slots.{mostSlots, slotOf, slotsFor}
 use Rattle.rules.specs.View.{View, rowIn, markOf, isTaken}
 use Rattle.rules.specs.declared.settings.Settings.{Settings}
 use Rattle.sos.specs.Grids.{measureOf}
-use Rattle.order.specs.InOrder.{leavesForOV, leftFits, TicketFits, IsOrder, ShareOther, OrdersFit, RunFits, TrainFits, ShareLoco, ShareTicket, Holder, InOrder, startView}
+use Rattle.order.specs.InOrder.{leftFits, TicketFits, OrdersFit, RunFits, TrainFits, ShareLoco, ShareTicket, Holder, InOrder, startView}
 use Rattle.order.specs.Sound.{Live, InBook, InRun, Has, Sound}
-use Rattle.order.proofs.AfterLaws.{after-op, withGrant, withRelease, withDeed, withSos}
+use Rattle.order.proofs.AfterLaws.{after-op, withGrant, withSos}
 use Rattle.order.proofs.DeedLaws.{deed-same, share-same}
 use Rattle.order.proofs.Facts.{Free, Requests, rowFor, runFor}
 use Rattle.order.proofs.MarkLaws.{marked-outside, marked-inside, marked-each}
 use Rattle.order.proofs.RowLaws.{set-each, rowSet, no-two-set}
 use Rattle.order.proofs.SoundLaws.{has-same, live-same, sound-same, sound-taken, sound-freed, row-other}
-use Rattle.order.proofs.TrainLaws.{deed-fits, share1-fits, share2-fits, share-fits}
-
-same-number : (a b : ℕ) → eqb a b ≡ true → eqb b a ≡ true
-same-number a b e = eq-eqb b a (sym (eqb-true a b e))
+use Rattle.order.proofs.TrainLaws.{same-turned, deed-fits, share1-fits, share2-fits, share-fits}
 
 same-back : {u t : Train} → SameTrain u t → SameTrain t u
 same-back e = record { loco = sym (e .loco); ticket = sym (e .ticket); start = sym (e .start); slots = sym (e .slots) }
@@ -163,8 +158,8 @@ module _ (c : Ticket) (v : View) (i : ℕ) (u : Train) (order : InOrder c v) (wi
         sound = sound;
         marks = marks;
         taken = taken;
-        locos = no-two-set Live ShareLoco (λ a b. same-number (a .loco .0) (b .loco .0)) blankTrain (v .rows) i u row-there loco (order .locos);
-        tickets = no-two-set Live ShareTicket (λ a b. same-number (a .ticket .0) (b .ticket .0)) blankTrain (v .rows) i u row-there ticket (order .tickets);
+        locos = no-two-set Live ShareLoco (λ a b. same-turned (a .loco .0) (b .loco .0)) blankTrain (v .rows) i u row-there loco (order .locos);
+        tickets = no-two-set Live ShareTicket (λ a b. same-turned (a .ticket .0) (b .ticket .0)) blankTrain (v .rows) i u row-there ticket (order .tickets);
         trains =
             set-each (λ (k : ℕ) (t : Train). Live t → TrainFits d t) blankTrain (v .rows) i u row-there fits
             (λ k n l. train-higher c d (rowIn v k) higher (order .trains k l));
@@ -270,7 +265,7 @@ live-within v k h l =
 
 other-loco : (t : Train) (wanted : Loco) → Live t → holdsLoco (t .loco) wanted ≡ false → sameLoco wanted (t .loco) ≡ true → ⊥
 unfolding holdsLoco
-other-loco t wanted live h s = true≢false (sym (same-number (wanted .0) (t .loco .0) s) ∙ (rw live at h))
+other-loco t wanted live h s = true≢false (sym (same-turned (wanted .0) (t .loco .0) s) ∙ (rw live at h))
 
 order-granted : (perSlot : ℕ) (loco : Loco) (bytes : ℕ) (c : Ticket) (v : View) → InOrder c v → Requests perSlot loco bytes c v
     → InOrder (ticketFor c) (withGrant v perSlot loco bytes (ticketFor c))

@@ -9,7 +9,7 @@ use borrow.Author.Tests.{eqb-true, eq-eqb}
 use Rattle.transitions.specs.Names.{OV}
 use Rattle.transitions.specs.Table.{Transition, table, those, leavesFrom}
 use Rattle.transitions.proofs.Members.{of-those, all, each}
-use Rattle.modes.specs.Next.{isOpen, opens, choose, refuses, nextStep}
+use Rattle.modes.specs.Next.{isOpen, opens, refuses, nextStep}
 use Rattle.modes.specs.declared.Step.{Step}
 use Rattle.modes.proofs.Choosing.{choice-stays}
 use Rattle.modes.proofs.Laws.{Open, By, refused-exactly-on-its-grounds, chosen-is-open}

@@ -7,18 +7,16 @@ use Prim.Native.Nat.{ℕ, _<_}
 use native.Mathlib.Decide.{ℕ-discrete}
 use lib.Dec.{eqb}
 use borrow.Author.Tests.{eq-eqb, ne-eqb, lt-ltb}
-use Rattle.trains.specs.Kinds.{lastTicket, isAbove}
+use Rattle.trains.specs.Kinds.{lastTicket}
 use Rattle.trains.specs.declared.kinds.Loco.{Loco}
 use Rattle.trains.specs.declared.kinds.Ticket.{Ticket}
-use Rattle.rules.specs.Deeds.{Deed, done}
+use Rattle.rules.specs.Deeds.{done}
 use Rattle.rules.specs.Named.{namedIn}
 use Rattle.rules.specs.Raising.{raised}
-use Rattle.rules.specs.Registering.{ticketOf, granted, released, requestGround}
+use Rattle.rules.specs.Registering.{granted, released, requestGround}
 use Rattle.rules.specs.Rules.{Op, request, release, on, sos, grants, groundOf, doneBy, rule}
 use Rattle.rules.specs.Ruling.{refused, ruled}
 use Rattle.rules.specs.View.{View}
-use Rattle.rules.specs.declared.effect.Effect.{Effect}
-use Rattle.rules.specs.declared.ruling.Answer.{Answer}
 use Rattle.rules.specs.declared.ruling.Ruling.{Ruling}
 use Rattle.rules.specs.declared.settings.Settings.{Settings}
 use Rattle.order.proofs.Facts.{names, requests}

@@ -1,37 +1,29 @@
 -- An accepted operation leads from a sound view to a sound one, and its marks can be undone exactly.
-use mathlib.Core.Path.{_≡_, refl, sym, ap, _∙_, subst}
-use mathlib.Core.Bool.{Bool, true, false, not, cond, true≢false, false≢true}
+use mathlib.Core.Path.{_≡_, refl, sym, _∙_, subst}
+use mathlib.Core.Bool.{Bool, true, not, true≢false}
 use mathlib.Core.List.{List}
 use Prim.Native.Nat.{ℕ, _≤_, _<_}
 use native.Mathlib.Omega.{arith}
-use lib.Dec.{eqb}
-use lib.ListN.{length, set, length-set}
-use lib.Seq.{set-out, getD-set-other}
-use Rattle.modes.specs.Next.{nextStep}
-use Rattle.modes.specs.declared.Step.{Step}
-use Rattle.sos.specs.declared.shares.Share.{Share}
-use Rattle.sos.specs.declared.shares.Share.the-variants.{Nothing, NoPosition, Order}
+use lib.ListN.{length, length-set}
+use lib.Seq.{getD-set-other}
 use Rattle.trains.specs.Kinds.{lastSlot}
 use Rattle.trains.specs.Record.{blankTrain, freshTrain, isEmpty}
 use Rattle.trains.specs.Sought.{rowCount}
-use Rattle.trains.specs.declared.kinds.Loco.{Loco}
 use Rattle.trains.specs.declared.kinds.Slot.{Slot}
 use Rattle.trains.specs.declared.kinds.Ticket.{Ticket}
 use Rattle.trains.specs.declared.record.Train.{Train}
-use Rattle.trains.proofs.ChangeLaws.{SameTrain, same-train}
-use Rattle.rules.specs.Deeds.{Deed, flags, position, authority, danger, clear, done, changedIf, stepped, stepTaken}
+use Rattle.trains.proofs.ChangeLaws.{SameTrain}
 use Rattle.rules.specs.Effect.{markFor, marked, rowAndRun, applied}
 use Rattle.rules.specs.Named.{namedIn}
-use Rattle.rules.specs.Raising.{shareTaken, raised}
+use Rattle.rules.specs.Raising.{raised}
 use Rattle.rules.specs.Registering.{granted, released}
 use Rattle.rules.specs.Rules.{Op, request, release, on, sos, groundOf, doneBy}
 use Rattle.rules.specs.Slots.{slotOf, slotsFor}
 use Rattle.rules.specs.View.{View, rowIn, markOf}
 use Rattle.rules.specs.declared.effect.Effect.{Effect}
-use Rattle.rules.specs.declared.named.Named.{Named}
 use Rattle.rules.specs.declared.settings.Settings.{Settings}
 use Rattle.order.specs.Sound.{Live, InBook, InRun, Has, ShareSlot, Sound}
-use Rattle.order.proofs.Facts.{Free, Requests, requests, rowFor, runFor, Names, names, Raises, raises}
+use Rattle.order.proofs.Facts.{Free, requests, rowFor, runFor, names, raises}
 use Rattle.order.proofs.AfterLaws.{after-op, live-there}
 use Rattle.order.proofs.DeedLaws.{deed-same, share-same}
 use Rattle.order.proofs.MarkLaws.{marked-length, marked-outside, marked-inside}

@@ -1,22 +1,20 @@
 -- A train whose fields are in their ranges keeps them there, whatever is done to it: a deed, or an order put by an SOS.
-use mathlib.Core.Path.{_≡_, refl, sym, ap, _∙_, subst}
+use mathlib.Core.Path.{_≡_, refl, sym, ap, _∙_}
 use mathlib.Core.Bool.{Bool, true, false, cond, _||_, true≢false}
 use mathlib.Core.List.{List}
 use mathlib.Core.Logic.{by-cases}
-use Prim.Native.Nat.{ℕ, _+_, _-_, _≤_, _<_}
+use Prim.Native.Nat.{ℕ, _≤_, _<_}
 use native.Mathlib.Decide.{decLt}
 use native.Mathlib.Omega.{arith}
-use lib.Dec.{eqb, leb}
-use lib.ListN.{length, getD, set, length-set, List·getD-eq-default}
-use borrow.Author.Tests.{eqb-true, eqb-false, eq-eqb, ne-eqb, leb-true}
+use lib.Dec.{eqb}
+use lib.ListN.{length, set, length-set, List·getD-eq-default}
+use borrow.Author.Tests.{eqb-true, eq-eqb, ne-eqb, leb-true}
 use Rattle.transitions.specs.Names.{SB, IS}
-use Rattle.modes.specs.Next.{nextStep}
 use Rattle.modes.proofs.Laws.{next-is-a-mode}
 use Rattle.sos.specs.Shares.{ownFront, behind, shareOfL1, shareBehind}
 use Rattle.sos.specs.declared.shares.Share.{Share}
 use Rattle.sos.specs.declared.shares.Share.the-variants.{Nothing as NoShare, NoPosition, Order as Ordered}
 use Rattle.trains.specs.Changes.{changed}
-use Rattle.trains.specs.Found.{first}
 use Rattle.trains.specs.Kinds.{sameTicket}
 use Rattle.trains.specs.Orders.{standsUnder, placeUnder, orderPlace, room, setAt, orderPut, orderGone}
 use Rattle.trains.specs.Ranges.{none, lastLocation, isLocation, isNoneOrLocation, locationFrom}
@@ -25,7 +23,7 @@ use Rattle.trains.specs.declared.found.Found.{Found}
 use Rattle.trains.specs.declared.found.Found.the-variants.{Nothing, Index}
 use Rattle.trains.specs.declared.kinds.Ticket.{Ticket}
 use Rattle.trains.specs.declared.record.Limit.{Limit}
-use Rattle.trains.specs.declared.record.Limit.the-variants.{Bare, To}
+use Rattle.trains.specs.declared.record.Limit.the-variants.{Bare}
 use Rattle.trains.specs.declared.record.Location.the-variants.{Nowhere, At}
 use Rattle.trains.specs.declared.record.Order.{Order}
 use Rattle.trains.specs.declared.record.Position.{Position}
@@ -33,20 +31,20 @@ use Rattle.trains.specs.declared.record.Position.the-variants.{Unknown, Between
 use Rattle.trains.specs.declared.record.Track.{Track}
 use Rattle.trains.specs.declared.record.Train.{Train}
 use Rattle.trains.proofs.FoundLaws.{first-true, first-before}
-use Rattle.trains.proofs.OrderLaws.{order-below, room-below, same-ticket-replaces, free-place-else}
+use Rattle.trains.proofs.OrderLaws.{order-below, room-below, same-ticket-replaces}
 use Rattle.trains.proofs.RangeLaws.{position-ends}
 use Rattle.rules.specs.Deeds.{Deed, done}
 use Rattle.rules.specs.Raising.{shareTaken}
 use Rattle.order.specs.InOrder.{LocationFits, PositionFits, LimitFits, leftFits, TicketFits, IsOrder, ShareOther, OrdersFit, TrainFits}
-use Rattle.order.proofs.DeedLaws.{Bears, after-deed}
+use Rattle.order.proofs.DeedLaws.{after-deed}
 use Rattle.order.proofs.OverrideLaws.{step-good, left-after}
 use Rattle.order.proofs.RowLaws.{set-each, no-two-set}
 
 -- ---- orders
 
--- two tickets that are the same, turned round; and tickets that are the same as one
-same-turned : (a b : Ticket) → sameTicket a b ≡ true → sameTicket b a ≡ true
-same-turned a b e = eq-eqb (b .0) (a .0) (sym (eqb-true (a .0) (b .0) e))
+-- two numbers that are the same, turned round
+pub same-turned : (a b : ℕ) → eqb a b ≡ true → eqb b a ≡ true
+same-turned a b e = eq-eqb b a (sym (eqb-true a b e))
 
 module _ (c own : Ticket) (os : List Order) (fits : OrdersFit c own os) where
   -- one place set, to an order under a ticket that no other place has, or to none
@@ -60,7 +58,7 @@ module _ (c own : Ticket) (os : List Order) (fits : OrdersFit c own os) where
         four = length-set os i o ∙ fits .four;
         issued = set-each (λ (k : ℕ) (x : Order). TicketFits c (x .other)) noOrder os i o h issued (λ k n. fits .issued k);
         other = set-each (λ (k : ℕ) (x : Order). sameTicket (x .other) own ≡ false) noOrder os i o h other (λ k n. fits .other k);
-        once = no-two-set IsOrder ShareOther (λ a b. same-turned (a .other) (b .other)) noOrder os i o h alone (fits .once);
+        once = no-two-set IsOrder ShareOther (λ a b. same-turned (a .other .0) (b .other .0)) noOrder os i o h alone (fits .once);
         free = set-each (λ (k : ℕ) (x : Order). sameTicket (x .other) noTicket ≡ true → x ≡ noOrder) noOrder os i o h free (λ k n. fits .free k);
         limits = set-each (λ (k : ℕ) (x : Order). LimitFits (x .limit)) noOrder os i o h limit (λ k n. fits .limits k);
       }
@@ -94,7 +92,7 @@ module _ (c own : Ticket) (os : List Order) (fits : OrdersFit c own os) where
   only-under x i some e k n s = go (placeUnder os x) refl
     where
       go : (f : Found) → placeUnder os x ≡ f → ⊥
-      go Nothing q = none-under x some q k (same-turned x (orderAt os k .other) s)
+      go Nothing q = none-under x some q k (same-turned (x .0) (orderAt os k .other .0) s)
       go (Index j) q =
           let same : j ≡ i = cc (same-ticket-replaces os x j (ne-eqb (x .0) 0 (λ z. omega arith)) q, e) in
           let there : orderAt os j .other .0 ≡ x .0 = eqb-true (orderAt os j .other .0) (x .0) (stands-under x j q) in
@@ -162,7 +160,7 @@ deed-fits c t h =
 -- ---- shares
 
 -- a share's limit is in its range
-abbrev ShareFits : Share → Type 0
+abbrev pub ShareFits : Share → Type 0
 ShareFits NoShare = Unit
 ShareFits NoPosition = Unit
 ShareFits (Ordered limit) = LimitFits limit
