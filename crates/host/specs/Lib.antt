@@ -1,3 +1,4 @@
 pub mod Frame
 pub mod Kinds
 pub mod Told
+pub mod Mixed

@@ -1,4 +1,4 @@
--- THE WORKED EXAMPLES of the paper that are proved, under one statement. Assumes nothing.
+-- THE WORKED EXAMPLES of the paper that are proved, under one statement.
 use mathlib.Core.Path.{_≡_, refl, _∙_}
 use mathlib.Core.List.{List, map, map-congr-left}
 use Prim.Native.Nat.{ℕ}
@@ -16,21 +16,21 @@ use Rattle.trains.specs.Ranges.{oneTo, isPosition, isNoneOrLocation, locationFr
 use Rattle.trains.specs.Orders.{standsUnder, placeUnder, room, setAt}
 use Rattle.trains.specs.Changes.{leftFor}
 use Rattle.trains.specs.Authority.{nearer, nearest, limitStop, orderStop, dangerStop, orderStops, endWith}
-use Rattle.rows.specs.Register.{holdsLoco, isSought}
-use Rattle.store.specs.Effect.{slotMarked, marked, applied}
-use Rattle.store.specs.Layout.{sessionBytes}
-use Rattle.store.specs.Stands.{soughtIn, findIn}
+use Rattle.trains.specs.Sought.{holdsLoco, isSought}
 use Rattle.sos.specs.Classes.{among, classOf}
 use Rattle.sos.specs.Grids.{cellOf}
 use Rattle.sos.specs.Shares.{behind, shareOfL1, shareBehind}
-use Rattle.rulings.specs.Ruling.{when, withFound}
-use Rattle.rulings.specs.Registering.{granted}
-use Rattle.rulings.specs.Running.{endAnswer, changedTo, moved, authorised, signalled, stepTaken, stepped, flagged}
-use Rattle.rulings.specs.Raising.{lacksPosition, lacksPlace, shareTaken, shared, measured, raised}
-use Rattle.rules.specs.Slots.{slotsFor, isFree, isRun, lowestRun}
-use Rattle.rules.specs.Requesting.{placed, requested}
-use Rattle.rules.specs.Named.{inRow, namedIn, onNamed, sosRaised}
-use Rattle.rules.specs.Rules.{grants, rule, counterAfter}
+use Rattle.rules.specs.Deeds.{endAnswer, changedIf, stepTaken, stepped, done, endAsked}
+use Rattle.rules.specs.Effect.{markFor, slotMarked, marked, applied}
+use Rattle.rules.specs.Named.{inRow, namedIn, nameGround}
+use Rattle.rules.specs.Raising.{lacksPosition, lacksPlace, shareTaken, sosGround, raised}
+use Rattle.rules.specs.Registering.{ticketFor, requestGround, rowOfFound, granted}
+use Rattle.rules.specs.Rules.{groundOf, doneBy, rule}
+use Rattle.rules.specs.Ruling.{when, unless, ruled as ruledBy}
+use Rattle.rules.specs.Slots.{isRequest, slotsFor, isFree, isRun, runFrom, lowestRun, isRunFound, startOf}
+use Rattle.rules.specs.View.{isTaken, soughtIn, findIn}
+use Rattle.order.specs.InOrder.{startView}
+use Rattle.store.specs.Layout.{sessionBytes}
 use Rattle.papers.specs.Cases.{flagsOf, computed}
 use Rattle.papers.specs.Table.{Line, table}
 use Rattle.papers.proofs.Viewed.{ruled, after, endIn, viewed, by-states}
@@ -40,9 +40,10 @@ viewed-as-printed : map (λ (l : Line). viewed (l .case)) table ≡ map (λ (l :
 unfolding
     viewed ruled after endIn flagsOf bitAt field times unpack refuse orElse unlessRefused headRefusal gateWidths gateRules gateRefusal gatesOf fieldsRefusal
     readRefusal readAnswer readInto transitions choose refuses nextStep first isFound orElseFound oneTo isPosition isNoneOrLocation locationFrom standsUnder placeUnder room setAt
-    leftFor nearer nearest limitStop orderStop dangerStop orderStops endWith holdsLoco isSought soughtIn findIn slotMarked marked applied among classOf cellOf
-    behind shareOfL1 shareBehind when withFound granted endAnswer changedTo moved authorised signalled stepTaken stepped flagged lacksPosition lacksPlace
-    shareTaken shared measured raised slotsFor isFree isRun lowestRun placed requested inRow namedIn onNamed sosRaised grants rule counterAfter
+    leftFor nearer nearest limitStop orderStop dangerStop orderStops endWith holdsLoco isSought soughtIn findIn isTaken markFor slotMarked marked applied
+    among classOf cellOf behind shareOfL1 shareBehind when unless ruledBy granted ticketFor requestGround rowOfFound endAnswer changedIf stepTaken stepped done
+    endAsked lacksPosition lacksPlace shareTaken sosGround raised isRequest slotsFor isFree isRun runFrom lowestRun isRunFound startOf inRow namedIn nameGround
+    groundOf doneBy rule startView
 viewed-as-printed = refl
 
 -- THE STATEMENT: whatever bytes of a session's length are lent, each example of the table comes to what the paper prints

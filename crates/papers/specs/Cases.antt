@@ -11,7 +11,7 @@ use Rattle.modes.specs.Next.{nextStep}
 use Rattle.modes.specs.declared.Step.{Step}
 use Rattle.trains.specs.declared.kinds.Loco.{Loco}
 use Rattle.trains.specs.declared.kinds.Ticket.{Ticket}
-use Rattle.rulings.specs.declared.ruling.Answer.{Answer}
+use Rattle.rules.specs.declared.ruling.Answer.{Answer}
 use Rattle.rules.specs.Rules.{Op, request}
 use Rattle.session.specs.Answers.{startAfter, answerTo, bytesAfter, endAnswerTo}
 

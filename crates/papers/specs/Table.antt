@@ -5,7 +5,8 @@ use Prim.Native.Nat.{ℕ, _/_, _%_}
 use Rattle.transitions.specs.Names.{LS, FS, OV, TR, IS}
 use Rattle.trains.specs.declared.kinds.Loco.{Loco}
 use Rattle.trains.specs.declared.kinds.Ticket.{Ticket}
-use Rattle.rules.specs.Rules.{Op, request, flags, position, authority, danger, sos}
+use Rattle.rules.specs.Deeds.{flags, position, authority, danger}
+use Rattle.rules.specs.Rules.{Op, request, on, sos}
 use Rattle.papers.specs.Cases.{Case, reading, stepping, requesting, ending, flagsOf, untouched}
 
 -- an example, and the numbers printed for it
@@ -47,13 +48,13 @@ loco2 = record { 0 = 2 }
 abbrev pub ticket2 : Ticket
 ticket2 = record { 0 = 2 }
 
--- both trains are there; L2 has its authority, and a signal at danger before the end of it
+-- both trains are there; L2 has its authority, and a danger location before the end of it
 abbrev pub authorised : List Op
-authorised = request loco1 54 ∷ request loco2 54 ∷ authority loco2 ticket2 9000 ∷ danger loco2 ticket2 7500 ∷ []
+authorised = request loco1 54 ∷ request loco2 54 ∷ on loco2 ticket2 (authority 9000) ∷ on loco2 ticket2 (danger 7500) ∷ []
 
 -- L2 goes to OS (condition 64) and L1 to FS (62), with its rear at 6,100
 abbrev pub behind : List Op
-behind = flags loco2 ticket2 (flagsOf (64 ∷ [])) ∷ flags loco1 ticket1 (flagsOf (62 ∷ [])) ∷ position loco1 ticket1 6300 6100 ∷ []
+behind = on loco2 ticket2 (flags (flagsOf (64 ∷ []))) ∷ on loco1 ticket1 (flags (flagsOf (62 ∷ []))) ∷ on loco1 ticket1 (position 6300 6100) ∷ []
 
 -- SOS by grid 1, where the cell of OS is S2 M2
 abbrev pub sosRaised : Op
@@ -61,7 +62,7 @@ sosRaised = sos loco2 ticket2 loco1 ticket1 1
 
 -- L2 goes to OV (condition 63)
 abbrev pub overridden : Op
-overridden = flags loco2 ticket2 (flagsOf (63 ∷ []))
+overridden = on loco2 ticket2 (flags (flagsOf (63 ∷ [])))
 
 -- Three packets: gates and bytes used, then the gate (650 m, number 12, suffix a, manned, B1, whistling, type 0) or the room as it was. Three requests:
 -- ticket, start, slots. Three mode steps: mode, priority, tie. Two ends: M and S of the SOS, or the step to OV; then 1 and the end

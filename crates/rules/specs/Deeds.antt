@@ -38,7 +38,7 @@ pub data Deed : Type 0 where
   clear : Ticket → Deed
 
 -- the deed that the code's enum says, with the flags that are lent beside it
-unfoldable pub meant : Said → List ℕ → Deed
+abbrev pub meant : Said → List ℕ → Deed
 meant Flags fs = flags fs
 meant (Position front rear) fs = position front rear
 meant (Authority end) fs = authority end

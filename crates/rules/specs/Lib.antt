@@ -1,5 +1,4 @@
 pub mod Refusals
-pub mod Settings
 pub mod View
 pub mod Effect
 pub mod Ruling

@@ -28,11 +28,11 @@ came-did bs c r after answer left = (ap (said c) answer, left)
 -- a call in any world of the logic: the lent bytes before and after it, and its answer
 module _ (w : World) (before after : RefT (List ℕ)) (r : Answer) where
   -- the answer and the bytes after are these
-  abbrev Done : Came → Pr w
+  abbrev pub Done : Came → Pr w
   Done d = sep (w .𝓤) (fact (w .𝓤) (r ≡ d .answer)) (fact (w .𝓤) (now after ≡ d .after))
 
   -- a contract, with further arguments, asks nothing and promises these
-  abbrev Says : {A : Type 0} → (RefT (List ℕ) × A → Unit {0} → (v : World) → Pr v)
+  abbrev pub Says : {A : Type 0} → (RefT (List ℕ) × A → Unit {0} → (v : World) → Pr v)
       → (RefT (List ℕ) × A → Unit {0} → Answer → RefT (List ℕ) × A → (v : World) → Pr v) → A → (List ℕ → Came) → Type 2
   Says requires ensures a came = (requires (before, a) tt w ≡ emp (w .𝓤)) × (ensures (before, a) tt r (after, a) w ≡ Done (came (now before)))
 

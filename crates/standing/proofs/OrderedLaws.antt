@@ -5,7 +5,6 @@ use mathlib.Core.List.{List, [], _∷_}
 use mathlib.Core.Logic.{⊎-elim}
 use Prim.Native.Nat.{ℕ, _≤_}
 use native.Mathlib.Decide.{ℕ-discrete}
-use native.Mathlib.Omega.{arith}
 use lib.ListN.{length}
 use Rattle.numbers.proofs.FieldLaws.{lt-or-le}
 use Rattle.replay.specs.Always.{Lasts}
@@ -16,7 +15,6 @@ use Rattle.trains.specs.declared.kinds.Ticket.{Ticket}
 use Rattle.rules.specs.Effect.{applied}
 use Rattle.rules.specs.Registering.{ticketOf, ticketFor}
 use Rattle.rules.specs.Rules.{Op, grants, groundOf, doneBy, rule}
-use Rattle.rules.specs.Settings.{Fitting}
 use Rattle.rules.specs.View.{View}
 use Rattle.rules.specs.declared.ruling.Answer.{Answer}
 use Rattle.rules.specs.declared.ruling.Ruling.{Ruling}
@@ -50,7 +48,7 @@ use Rattle.standing.proofs.Theorem.{start-starts, started-order, starte
 
 -- ---- counter and view
 
-module _ (s : Settings) (fitting : Fitting s) where
+module _ (s : Settings) where
   -- where the rules accept an operation, they leave counter and view in order
   in-order-after : (o : Op) (c : ℕ) (v w : View) (r : Reply) → outcome v (dueRule s o c v) ≡ accept r w → InOrder (ticketOf c) v
       → InOrder (ticketOf (counterAfter (rules s) o c)) w
@@ -63,7 +61,7 @@ module _ (s : Settings) (fitting : Fitting s) where
       accepted-exactly s o C (ticketFor C) v .0 (sym (λ i. next .answer i .answer) ∙ did .accepted) in
       let view : applied v (doneBy s o C (ticketFor C) v .effect) ≡ w =
       ap (applied v) (sym (next .effect ∙ ap (λ (q : Ruling). q .effect) (accepted-plain s o C (ticketFor C) v ground))) ∙ did .view in
-      subst₂ InOrder (counter-done s o C (ticketFor C) v ∙ by (grants o)) view (order-kept s fitting o C v order ground)
+      subst₂ InOrder (counter-done s o C (ticketFor C) v ∙ by (grants o)) view (order-kept s o C v order ground)
     where
       by : (b : Bool) → cond b (ticketFor (ticketOf c)) (ticketOf c) ≡ ticketOf (cond b (ticketFor (ticketOf c) .0) c)
       by true = refl
@@ -77,14 +75,10 @@ module _ (s : Settings) (fitting : Fitting s) where
     at-higher = λ c d v l m order. order-higher (ticketOf c) (ticketOf d) v l order;
   }
 
--- the usual settings are such as a rig may have
-usual-fits : Fitting usual
-usual-fits = record { margin = omega arith; some = omega arith; few = omega arith }
-
 pub order-after : (bs after : List ℕ) (h : History (rules usual)) → Starts session bs → InOrder (counterOf bs) (viewOf bs) → Made session bs h after
     → InOrder (counterOf after) (viewOf after)
 order-after bs after h starts order made =
-    always session (lawful usual) kept (λ (c : ℕ) (v : View). InOrder (ticketOf c) v) (order-lasts usual usual-fits) bs after h starts order made
+    always session (lawful usual) kept (λ (c : ℕ) (v : View). InOrder (ticketOf c) v) (order-lasts usual) bs after h starts order made
 
 -- ---- the bytes
 

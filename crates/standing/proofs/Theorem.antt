@@ -6,19 +6,15 @@ use mathlib.Core.List.{List, [], _∷_}
 use Prim.Native.Nat.{ℕ, suc, _<_}
 use native.Mathlib.Omega.{arith}
 use borrow.Author.Tests.{eq-eqb}
-use lib.ListN.{length, getD, replicate}
+use lib.ListN.{length, getD}
 use Rattle.replay.specs.Demand3.{Call, History, standing, tickets, Starts, Made, Demand3}
 use Rattle.replay.specs.Played.{callsOf, asCalls, GrantsStand, Same}
 use Rattle.replay.proofs.Demand.{demand3}
 use Rattle.replay.proofs.Numbered.{tickets-numbered}
 use Rattle.replay.proofs.Played.{played}
-use Rattle.trains.specs.Kinds.{lastSlot}
-use Rattle.trains.specs.Record.{blankTrain}
-use Rattle.trains.specs.Sought.{rowCount}
 use Rattle.trains.specs.declared.kinds.Ticket.{Ticket}
 use Rattle.rules.specs.Registering.{ticketOf, ticketFor}
-use Rattle.rules.specs.View.{View}
-use Rattle.order.specs.InOrder.{InOrder}
+use Rattle.order.specs.InOrder.{InOrder, startView}
 use Rattle.order.proofs.OrderLaws.{order-start, order-sound}
 use Rattle.store.specs.Emptied.{emptied}
 use Rattle.store.specs.Lent.{Lent}
@@ -52,16 +48,13 @@ next-one : (o : Op) (c : ℕ) → ticketFor (ticketOf c) .0 ≡ suc c
 unfolding ticketFor
 next-one o c = refl
 
--- 24 blank rows and a free book
-abbrev pub emptyView : View
-emptyView = record { rows = replicate rowCount blankTrain; book = replicate lastSlot 0 }
-
 pub started-is : (bs : List ℕ) → length bs ≡ sessionBytes → emptied bs ≡ startAfter bs
 unfolding startAfter
 started-is bs e = sym (λ i. cond (eq-eqb (length bs) sessionBytes e i) (emptied bs) bs)
 
 -- THE START: 24 blank rows, a free book, counter 0 and no entries
-pub started-view : (bs : List ℕ) → length bs ≡ sessionBytes → viewOf (startAfter bs) ≡ emptyView
+pub started-view : (bs : List ℕ) → length bs ≡ sessionBytes → viewOf (startAfter bs) ≡ startView
+unfolding startView
 started-view bs e = ap viewOf (sym (started-is bs e)) ∙ emptied-view bs e
 
 pub started-counter : (bs : List ℕ) → length bs ≡ sessionBytes → counterOf (startAfter bs) ≡ ticketOf 0

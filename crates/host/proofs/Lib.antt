@@ -1,0 +1,2 @@
+pub mod MixedLaws
+pub mod Links
