@@ -6,11 +6,15 @@ use mathlib.Core.Path.{_≡_, refl, sym, ap, _∙_}
 use native.Mathlib.Omega.{arith}
 use lib.ListN.{length, getD, set, take, drop, length-drop}
 use lib.Seq.{sets, length-sets, take-suc, getD-drop}
-use Rattle.numbers.proofs.FieldLaws.{Bytes}
+use borrow.Author.Tests.{lt-ltb, le-ltb}
+use Rattle.numbers.proofs.FieldLaws.{Bytes, lt-or-le}
 use Rattle.numbers.proofs.RowLaws.{sets-append}
-use Rattle.store.proofs.Frames.{Changes}
+use Rattle.rows.specs.Row.{rowBytes, rowAt}
+use Rattle.rows.proofs.RowLaws.{row-same}
+use Rattle.trains.specs.Sought.{rowCount}
+use Rattle.store.proofs.Frames.{Changes, unchanged, widen}
 use Rattle.store.proofs.Stretches.{Outside, sets-out, sets-in, bytes-sets, bytes-stretch, length-stretch, stretch-at}
-use Rattle.ledger.specs.Copied.{copied, Apart}
+use Rattle.ledger.specs.Copied.{copied, Apart, rowCopied}
 
 pub length-copied : (bs : List ℕ) (n from to : ℕ) → length (copied bs n from to) ≡ length bs
 unfolding copied
@@ -43,6 +47,39 @@ copied-changes s n from to h f = record {
   bytes = bytes-copied s n from to h;
   out = copied-out s n from to f;
 }
+
+-- n bytes that were copied, read as a row
+pub copied-row : (s : List ℕ) (from to : ℕ) → from + rowBytes ≤ length s → to + rowBytes ≤ length s
+    → rowAt (copied s rowBytes from to) to ≡ rowAt s from
+copied-row s from to f g = row-same (copied s rowBytes from to) s to from (λ k l. copied-in s rowBytes from to f k g l)
+
+-- ---- a row copied
+
+-- where its number is the register's
+pub row-copied : (s : List ℕ) (i from to : ℕ) → i < rowCount → rowCopied s i from to ≡ copied s rowBytes from to
+unfolding rowCopied
+row-copied s i from to h = rw (lt-ltb i rowCount h)
+
+-- and any other number copies nothing
+pub row-passed : (s : List ℕ) (i from to : ℕ) → rowCount ≤ i → rowCopied s i from to ≡ s
+unfolding rowCopied
+row-passed s i from to h = rw (le-ltb i rowCount h)
+
+pub length-row-copied : (s : List ℕ) (i from to : ℕ) → length (rowCopied s i from to) ≡ length s
+length-row-copied s i from to =
+    ⊎-elim (λ l. ap length (row-copied s i from to l) ∙ length-copied s rowBytes from to) (λ l. ap length (row-passed s i from to l)) (lt-or-le i rowCount)
+
+-- only a stretch that has the target changes
+pub row-copied-changes : (s : List ℕ) (i from to lo n : ℕ) → Bytes s
+    → (i < rowCount → (from + rowBytes ≤ length s) × (lo ≤ to) × (to + rowBytes ≤ lo + n))
+    → Changes s (rowCopied s i from to) lo n
+row-copied-changes s i from to lo n h f =
+    ⊎-elim
+    (λ l. rw (row-copied s i from to l) (widen (copied-changes s rowBytes from to h (f l .0)) lo n (f l .1) (f l .2)))
+    (λ l. rw (row-passed s i from to l) (unchanged h))
+    (lt-or-le i rowCount)
+
+-- ---- byte after byte
 
 -- nothing copied
 pub copied-zero : (bs : List ℕ) (from to : ℕ) → copied bs 0 from to ≡ bs

@@ -1,193 +1,251 @@
--- Laws of the log's entries in the bytes: an entry that is kept reads as the book and the two rows as they were, and no change of other bytes
--- changes it.
+-- Laws of the log's entries in the bytes: an entry that is kept reads as what was saved of the view, and no change of other bytes changes it.
 use Prim.Native.Nat.{ℕ, _+_, _≤_, _<_}
+use mathlib.Core.Bool.{Bool, true, false, cond, not}
 use mathlib.Core.List.{List}
 use mathlib.Core.Logic.{⊎-elim, inl, inr}
-use mathlib.Core.Path.{_≡_, refl, ap, _∙_}
+use mathlib.Core.Path.{_≡_, refl, sym, ap, _∙_}
 use native.Mathlib.Omega.{arith}
-use lib.ListN.{length, take, drop}
+use borrow.Author.Tests.{lt-ltb, le-ltb}
+use lib.Dec.{eqb, ltb}
+use lib.ListN.{length}
 use Rattle.numbers.specs.Numbers.{numberAt, putNumber}
+use Rattle.numbers.proofs.FieldLaws.{lt-or-le}
 use Rattle.replay.specs.Demand3.{depth}
-use Rattle.rows.specs.Register.{rowCount, rowOf}
 use Rattle.rows.specs.Row.{rowBytes, rowAt}
-use Rattle.rows.proofs.RowLaws.{row-same}
-use Rattle.trains.specs.Kinds.{lastSlot}
+use Rattle.rules.specs.Effect.{markFor, change, noChange}
+use Rattle.rules.specs.View.{View, rowIn}
+use Rattle.rules.specs.declared.effect.Effect.{Effect}
+use Rattle.store.specs.Layout.{logAt, rowOffset, runBytes, keptRowBytes, entryBytes, entryOffset, slotsAt, markAt, changedAt, alsoAt, sessionBytes}
+use Rattle.store.specs.Lent.{Lent}
+use Rattle.store.specs.Stands.{viewOf}
+use Rattle.store.proofs.Frames.{Clear, Changes, widen, next, number-changes, number-stays, row-stays, lent-after}
+use Rattle.store.proofs.RegisterLaws.{view-stays}
+use Rattle.store.proofs.ViewLaws.{view-row, view-row-past, entry-room}
+use Rattle.trains.specs.Sought.{rowCount}
 use Rattle.trains.specs.declared.record.Train.{Train}
-use Rattle.store.specs.declared.effect.Change.{Change}
-use Rattle.store.specs.Layout.{bookAt, rowsAt, logAt, rowPlace, keptRowBytes, entryBytes, entryPlace, oneAt, otherAt, sessionBytes}
-use Rattle.store.specs.Stands.{bookOf}
-use Rattle.store.proofs.Frames.{Clear, Changes, widen, next, number-changes, number-stays, row-stays, stretch-stays, Ready, ready-after}
-use Rattle.store.proofs.Stretches.{stretch-same}
-use Rattle.store.proofs.ViewLaws.{entry-room}
-use Rattle.ledger.specs.Copied.{copied}
-use Rattle.ledger.specs.Log.{changeAt, entryIn}
-use Rattle.ledger.specs.Settled.{rowKept, entryKept}
-use Rattle.ledger.proofs.HeaderLaws.{number-back}
-use Rattle.ledger.proofs.CopyLaws.{length-copied, copied-in, copied-changes}
+use Rattle.ledger.specs.Copied.{rowCopied}
+use Rattle.ledger.specs.Log.{rowNow, saved, changeAt, takenAt, entryAt, entryIn}
+use Rattle.ledger.specs.Settled.{InBounds, runKept, rowKept, entryKept}
+use Rattle.ledger.proofs.HeaderLaws.{number-back, threePut, three-changes, first-back, second-back, third-back}
+use Rattle.ledger.proofs.CopyLaws.{copied-row, row-copied, row-copied-changes}
+
+-- a mark is a byte, and tells whether the run is taken
+pub mark-byte : (taken : Bool) → markFor taken < 256
+unfolding markFor
+mark-byte true = omega arith
+mark-byte false = omega arith
+
+mark-tells : (taken : Bool) → not (eqb (markFor taken) 0) ≡ taken
+unfolding markFor
+mark-tells true = refl
+mark-tells false = refl
 
 -- ---- what stays
 
 -- a kept row
 pub change-stays : {s t : List ℕ} {at n : ℕ} (r : Changes s t at n) (i : ℕ) → Clear i keptRowBytes at n → changeAt t i ≡ changeAt s i
+unfolding changeAt
 change-stays {s} {t} {at} {n} r i h =
     let number : numberAt 1 t i ≡ numberAt 1 s i = number-stays r 1 i (⊎-elim (λ a. inl (omega arith)) (λ a. inr (omega arith)) h) in
     let row : rowAt t (i + 1) ≡ rowAt s (i + 1) = row-stays r (i + 1) (⊎-elim (λ a. inl (omega arith)) (λ a. inr (omega arith)) h) in
-    λ k. record { row = number k; train = row k }
-
--- an entry by its parts
-pub entry-by : (bs : List ℕ) (p : ℕ) (book : List ℕ) (one other : Change) → take lastSlot (drop (entryPlace p) bs) ≡ book
-    → changeAt bs (oneAt (entryPlace p)) ≡ one → changeAt bs (otherAt (entryPlace p)) ≡ other
-    → entryIn bs p ≡ record { book = book; one = one; other = other }
-unfolding entryIn
-entry-by bs p book one other a b c = λ k. record { book = a k; one = b k; other = c k }
+    λ k. cond (ltb (number k) rowCount) (change (number k) (row k)) noChange
 
 -- an entry
-pub entry-stays : {s t : List ℕ} {at n : ℕ} (r : Changes s t at n) (p : ℕ) → length s ≡ sessionBytes → p < depth
-    → Clear (entryPlace p) entryBytes at n → entryIn t p ≡ entryIn s p
-unfolding entryIn
-entry-stays {s} {t} {at} {n} r p size l h =
-    let room : entryPlace p + entryBytes ≤ sessionBytes = entry-room p l in
-    let e : ℕ = entryPlace p in
-    entry-by t p (take lastSlot (drop e s)) (changeAt s (oneAt e)) (changeAt s (otherAt e))
-    (stretch-stays r e lastSlot (omega arith) (⊎-elim (λ a. inl (omega arith)) (λ a. inr (omega arith)) h))
-    (change-stays r (oneAt e) (⊎-elim (λ a. inl (omega arith)) (λ a. inr (omega arith)) h))
-    (change-stays r (otherAt e) (⊎-elim (λ a. inl (omega arith)) (λ a. inr (omega arith)) h))
+pub entry-stays : {s t : List ℕ} {at n : ℕ} (r : Changes s t at n) (e : ℕ) → Clear e entryBytes at n → entryAt t e ≡ entryAt s e
+unfolding entryAt
+entry-stays {s} {t} {at} {n} r e h =
+    let start : numberAt 1 t e ≡ numberAt 1 s e = number-stays r 1 e (⊎-elim (λ a. inl (omega arith)) (λ a. inr (omega arith)) h) in
+    let slots : numberAt 1 t (slotsAt e) ≡ numberAt 1 s (slotsAt e) =
+    number-stays r 1 (slotsAt e) (⊎-elim (λ a. inl (omega arith)) (λ a. inr (omega arith)) h) in
+    let mark : numberAt 1 t (markAt e) ≡ numberAt 1 s (markAt e) =
+    number-stays r 1 (markAt e) (⊎-elim (λ a. inl (omega arith)) (λ a. inr (omega arith)) h) in
+    let changed : changeAt t (changedAt e) ≡ changeAt s (changedAt e) =
+    change-stays r (changedAt e) (⊎-elim (λ a. inl (omega arith)) (λ a. inr (omega arith)) h) in
+    let also : changeAt t (alsoAt e) ≡ changeAt s (alsoAt e) =
+    change-stays r (alsoAt e) (⊎-elim (λ a. inl (omega arith)) (λ a. inr (omega arith)) h) in
+    λ k. record {
+      start = record { 0 = start k };
+      slots = slots k;
+      taken = not (eqb (mark k) 0);
+      changed = changed k;
+      also = also k;
+    }
 
 -- ---- a row kept
 
--- n bytes that were copied, read as a row
-pub copied-row : (s : List ℕ) (from to : ℕ) → from + rowBytes ≤ length s → to + rowBytes ≤ length s
-    → rowAt (copied s rowBytes from to) to ≡ rowAt s from
-copied-row s from to f g = row-same (copied s rowBytes from to) s to from (λ k l. copied-in s rowBytes from to f k g l)
+-- a kept row reads as its number and the row
+pub change-there : (s : List ℕ) (at i : ℕ) → numberAt 1 s at ≡ i → i < rowCount → changeAt s at ≡ change i (rowAt s (at + 1))
+unfolding changeAt
+change-there s at i e h = rw (e, lt-ltb i rowCount h)
 
--- and as a book
-pub copied-stretch : (s : List ℕ) (n from to : ℕ) → from + n ≤ length s → to + n ≤ length s
-    → take n (drop to (copied s n from to)) ≡ take n (drop from s)
-copied-stretch s n from to f g =
-    stretch-same (copied s n from to) s to from n (omega (arith, length-copied s n from to)) f (λ k l. copied-in s n from to f k g l)
+-- and no row as none
+pub change-none : (s : List ℕ) (at i : ℕ) → numberAt 1 s at ≡ i → rowCount ≤ i → changeAt s at ≡ noChange
+unfolding changeAt
+change-none s at i e h = rw (e, le-ltb i rowCount h)
 
-module _ (s : List ℕ) (ready : Ready s) (i at : ℕ) (h : i < rowCount) (lo : logAt ≤ at) (hi : at + keptRowBytes ≤ sessionBytes) where
+module _ (s : List ℕ) (lent : Lent s) (i at : ℕ) (h : i ≤ rowCount) (lo : logAt ≤ at) (hi : at + keptRowBytes ≤ sessionBytes) where
   numbered : List ℕ
   numbered = putNumber 1 s at i
 
   numbered-changes : Changes s numbered at 1
   unfolding numbered
-  numbered-changes = number-changes 1 s at i (ready .bytes)
+  numbered-changes = number-changes 1 s at i (lent .bytes)
 
-  from-row : rowPlace i + rowBytes ≤ length numbered
-  from-row = omega (arith, numbered-changes .size, ready .size)
+  size : length numbered ≡ sessionBytes
+  size = numbered-changes .size ∙ lent .size
 
-  to-log : at + 1 + rowBytes ≤ length numbered
-  to-log = omega (arith, numbered-changes .size, ready .size)
-
-  row-changes : Changes numbered (copied numbered rowBytes (rowPlace i) (at + 1)) (at + 1) rowBytes
-  row-changes = copied-changes numbered rowBytes (rowPlace i) (at + 1) (numbered-changes .bytes) from-row
-
-  kept-is : rowKept s i at ≡ copied numbered rowBytes (rowPlace i) (at + 1)
+  kept-is : rowKept s i at ≡ rowCopied numbered i (rowOffset i) (at + 1)
   unfolding rowKept numbered
   kept-is = refl
+
+  copy-changes : Changes numbered (rowCopied numbered i (rowOffset i) (at + 1)) (at + 1) rowBytes
+  copy-changes =
+      row-copied-changes numbered i (rowOffset i) (at + 1) (at + 1) rowBytes (numbered-changes .bytes)
+      (λ l. (omega (arith, size), omega arith, omega arith))
 
   -- only those bytes change
   pub row-kept-changes : Changes s (rowKept s i at) at keptRowBytes
   row-kept-changes =
       rw kept-is
-      (next (widen numbered-changes at keptRowBytes (omega arith) (omega arith)) (widen row-changes at keptRowBytes (omega arith) (omega arith)))
+      (next (widen numbered-changes at keptRowBytes (omega arith) (omega arith)) (widen copy-changes at keptRowBytes (omega arith) (omega arith)))
 
   number-kept : numberAt 1 (rowKept s i at) at ≡ i
   unfolding numbered
-  number-kept = rw kept-is (number-stays row-changes 1 at (inl (omega arith)) ∙ number-back 1 s at i (omega (arith, ready .size)) (omega arith))
+  number-kept = rw kept-is (number-stays copy-changes 1 at (inl (omega arith)) ∙ number-back 1 s at i (omega (arith, lent .size)) (omega arith))
 
-  train-kept : rowAt (rowKept s i at) (at + 1) ≡ rowOf s rowsAt i
-  train-kept =
-      rw kept-is
-      (copied-row numbered (rowPlace i) (at + 1) from-row to-log ∙ row-stays numbered-changes (rowPlace i) (inl (omega arith)))
+  train-kept : i < rowCount → rowAt (rowKept s i at) (at + 1) ≡ rowIn (viewOf s) i
+  train-kept l =
+      ap (λ (t : List ℕ). rowAt t (at + 1)) (kept-is ∙ row-copied numbered i (rowOffset i) (at + 1) l)
+      ∙ copied-row numbered (rowOffset i) (at + 1) (omega (arith, size)) (omega (arith, size))
+      ∙ row-stays numbered-changes (rowOffset i) (inl (omega arith))
+      ∙ sym (view-row s i l)
 
   -- and they read as the row
-  pub row-kept-back : changeAt (rowKept s i at) at ≡ record { row = i; train = rowOf s rowsAt i }
-  row-kept-back = λ k. record { row = number-kept k; train = train-kept k }
+  pub row-kept-back : changeAt (rowKept s i at) at ≡ rowNow (viewOf s) i
+  row-kept-back =
+      ⊎-elim
+      (λ l. change-there (rowKept s i at) at i number-kept l ∙ ap (change i) (train-kept l))
+      (λ l.
+      let none : rowCount ≡ i = omega arith in
+      change-none (rowKept s i at) at i number-kept l ∙ (λ k. change (none k) (sym (view-row-past s i l) k)))
+      (lt-or-le i rowCount)
 
 -- ---- an entry kept
 
-module _ (s : List ℕ) (ready : Ready s) (i j p : ℕ) (hi : i < rowCount) (hj : j < rowCount) (l : p < depth) where
-  e : ℕ
-  e = entryPlace p
+module _ (s : List ℕ) (lent : Lent s) (e : Effect) (bounds : InBounds e) (p : ℕ) (l : p < depth) where
+  at : ℕ
+  at = entryOffset p
 
-  room : e + entryBytes ≤ sessionBytes
-  unfolding e
+  room : at + entryBytes ≤ sessionBytes
+  unfolding at
   room = entry-room p l
 
-  behind : logAt ≤ e
-  unfolding e
+  behind : logAt ≤ at
+  unfolding at
   behind = omega arith
 
-  with-book : List ℕ
-  with-book = copied s lastSlot bookAt e
+  with-run : List ℕ
+  with-run = runKept s e at
 
-  with-one : List ℕ
-  with-one = rowKept with-book i (oneAt e)
+  with-changed : List ℕ
+  with-changed = rowKept with-run (e .changed .row) (changedAt at)
 
-  with-other : List ℕ
-  with-other = rowKept with-one j (otherAt e)
+  with-also : List ℕ
+  with-also = rowKept with-changed (e .also .row) (alsoAt at)
 
-  book-change : Changes s with-book e lastSlot
-  unfolding with-book
-  book-change = copied-changes s lastSlot bookAt e (ready .bytes) (omega (arith, ready .size))
+  mark : ℕ
+  mark = markFor (not (e .taken))
 
-  ready-book : Ready with-book
-  ready-book = ready-after ready book-change
+  run-is : with-run ≡ threePut 1 s at (slotsAt at) (markAt at) (e .start .0) (e .slots) mark
+  unfolding with-run runKept threePut mark
+  run-is = refl
 
-  one-change : Changes with-book with-one (oneAt e) keptRowBytes
-  unfolding with-one
-  one-change = row-kept-changes with-book ready-book i (oneAt e) hi (omega (arith, behind)) (omega (arith, room))
+  run-change : Changes s with-run at runBytes
+  run-change =
+      rw run-is (three-changes 1 s (lent .bytes) at (slotsAt at) (markAt at) (e .start .0) (e .slots) mark refl (omega arith))
 
-  ready-one : Ready with-one
-  ready-one = ready-after ready-book one-change
+  lent-run : Lent with-run
+  lent-run = lent-after lent run-change
 
-  other-change : Changes with-one with-other (otherAt e) keptRowBytes
-  unfolding with-other
-  other-change = row-kept-changes with-one ready-one j (otherAt e) hj (omega (arith, behind)) (omega (arith, room))
+  changed-change : Changes with-run with-changed (changedAt at) keptRowBytes
+  unfolding with-changed
+  changed-change =
+      row-kept-changes with-run lent-run (e .changed .row) (changedAt at) (omega (arith, bounds .changed)) (omega (arith, behind)) (omega (arith, room))
 
-  entry-is : entryKept s i j (entryPlace p) ≡ with-other
-  unfolding entryKept with-other with-one with-book e
+  lent-changed : Lent with-changed
+  lent-changed = lent-after lent-run changed-change
+
+  also-change : Changes with-changed with-also (alsoAt at) keptRowBytes
+  unfolding with-also
+  also-change =
+      row-kept-changes with-changed lent-changed (e .also .row) (alsoAt at) (bounds .also) (omega (arith, behind)) (omega (arith, room))
+
+  entry-is : entryKept s e (entryOffset p) ≡ with-also
+  unfolding entryKept with-also with-changed with-run at
   entry-is = refl
 
-  book-kept : take lastSlot (drop e with-other) ≡ bookOf s
-  unfolding with-book
-  book-kept =
-      stretch-stays other-change e lastSlot (omega (arith, ready-one .size, room)) (inl (omega arith))
-      ∙ stretch-stays one-change e lastSlot (omega (arith, ready-book .size, room)) (inl (omega arith))
-      ∙ copied-stretch s lastSlot bookAt e (omega (arith, ready .size)) (omega (arith, ready .size, room))
-
-  row-then : (k : ℕ) → k < rowCount → rowOf with-book rowsAt k ≡ rowOf s rowsAt k
-  row-then k m = row-stays book-change (rowPlace k) (inl (omega (arith, behind)))
-
-  one-kept : changeAt with-other (oneAt e) ≡ record { row = i; train = rowOf s rowsAt i }
-  unfolding with-one
-  one-kept =
-      change-stays other-change (oneAt e) (inl (omega arith))
-      ∙ row-kept-back with-book ready-book i (oneAt e) hi (omega (arith, behind)) (omega (arith, room))
-      ∙ ap (λ (t : Train). record { row = i; train = t }) (row-then i hi)
-
-  other-kept : changeAt with-other (otherAt e) ≡ record { row = j; train = rowOf s rowsAt j }
-  unfolding with-other
-  other-kept =
-      row-kept-back with-one ready-one j (otherAt e) hj (omega (arith, behind)) (omega (arith, room))
-      ∙ ap (λ (t : Train). record { row = j; train = t })
-      (row-stays one-change (rowPlace j) (inl (omega (arith, behind))) ∙ row-then j hj)
+  rows-change : Changes with-run with-also (changedAt at) (keptRowBytes + keptRowBytes)
+  rows-change =
+      next (widen changed-change (changedAt at) (keptRowBytes + keptRowBytes) (omega arith) (omega arith))
+      (widen also-change (changedAt at) (keptRowBytes + keptRowBytes) (omega arith) (omega arith))
 
   -- only the entry's bytes change
-  pub entry-kept-changes : Changes s (entryKept s i j (entryPlace p)) (entryPlace p) entryBytes
-  unfolding e
+  pub entry-kept-changes : Changes s (entryKept s e (entryOffset p)) (entryOffset p) entryBytes
+  unfolding at
   entry-kept-changes =
       rw entry-is
-      (next (widen book-change e entryBytes (omega arith) (omega arith))
-      (next (widen one-change e entryBytes (omega arith) (omega arith)) (widen other-change e entryBytes (omega arith) (omega arith))))
+      (next (widen run-change at entryBytes (omega arith) (omega arith)) (widen rows-change at entryBytes (omega arith) (omega arith)))
 
-  -- and they read as the book and the two rows
-  pub entry-kept-back : entryIn (entryKept s i j (entryPlace p)) p
-      ≡ record { book = bookOf s; one = record { row = i; train = rowOf s rowsAt i }; other = record { row = j; train = rowOf s rowsAt j } }
-  unfolding e
+  number-there : (i x : ℕ) → i < changedAt at → numberAt 1 (threePut 1 s at (slotsAt at) (markAt at) (e .start .0) (e .slots) mark) i ≡ x
+      → numberAt 1 with-also i ≡ x
+  number-there i x h q = number-stays rows-change 1 i (inl (omega arith)) ∙ rw run-is q
+
+  start-kept : numberAt 1 with-also at ≡ e .start .0
+  start-kept =
+      number-there at (e .start .0) (omega arith)
+      (first-back 1 s (lent .bytes) at (slotsAt at) (markAt at) (e .start .0) (e .slots) mark refl (omega arith) (omega (arith, lent .size, room)) (bounds .start))
+
+  slots-kept : numberAt 1 with-also (slotsAt at) ≡ e .slots
+  slots-kept =
+      number-there (slotsAt at) (e .slots) (omega arith)
+      (second-back 1 s (lent .bytes) at (slotsAt at) (markAt at) (e .start .0) (e .slots) mark refl (omega arith) (omega (arith, lent .size, room)) (bounds .slots))
+
+  mark-kept : takenAt with-also at ≡ not (e .taken)
+  unfolding mark
+  mark-kept =
+      ap (λ (n : ℕ). not (eqb n 0))
+      (number-there (markAt at) mark (omega arith)
+      (third-back 1 s (lent .bytes) at (slotsAt at) (markAt at) (e .start .0) (e .slots) mark refl (omega arith) (omega (arith, lent .size, room)) (mark-byte (not (e .taken)))))
+      ∙ mark-tells (not (e .taken))
+
+  run-view : viewOf with-run ≡ viewOf s
+  run-view = view-stays run-change (omega (arith, lent .size)) (inl (omega (arith, behind)))
+
+  changed-view : viewOf with-changed ≡ viewOf s
+  changed-view = view-stays changed-change (omega (arith, lent-run .size)) (inl (omega (arith, behind))) ∙ run-view
+
+  changed-kept : changeAt with-also (changedAt at) ≡ rowNow (viewOf s) (e .changed .row)
+  unfolding with-changed
+  changed-kept =
+      change-stays also-change (changedAt at) (inl (omega arith))
+      ∙ row-kept-back with-run lent-run (e .changed .row) (changedAt at) (omega (arith, bounds .changed)) (omega (arith, behind)) (omega (arith, room))
+      ∙ ap (λ (v : View). rowNow v (e .changed .row)) run-view
+
+  also-kept : changeAt with-also (alsoAt at) ≡ rowNow (viewOf s) (e .also .row)
+  unfolding with-also
+  also-kept =
+      row-kept-back with-changed lent-changed (e .also .row) (alsoAt at) (bounds .also) (omega (arith, behind)) (omega (arith, room))
+      ∙ ap (λ (v : View). rowNow v (e .also .row)) changed-view
+
+  -- and they read as what was saved
+  pub entry-kept-back : entryIn (entryKept s e (entryOffset p)) p ≡ saved (viewOf s) e
+  unfolding at saved entryAt
   entry-kept-back =
       rw entry-is
-      (entry-by with-other p (bookOf s) (record { row = i; train = rowOf s rowsAt i }) (record { row = j; train = rowOf s rowsAt j })
-      book-kept one-kept other-kept)
+      (λ k. record {
+        start = record { 0 = start-kept k };
+        slots = slots-kept k;
+        taken = mark-kept k;
+        changed = changed-kept k;
+        also = also-kept k;
+      })

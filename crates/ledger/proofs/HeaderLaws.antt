@@ -1,4 +1,5 @@
--- Laws of the header: what is put there is read, and all else stays.
+-- Laws of three numbers of the same width, one behind the other, as the header and the run of an entry are: what is put there is read, and all
+-- else stays.
 use Prim.Native.Nat.{ℕ, _+_, _*_, _^_, _≤_, _<_}
 use mathlib.Core.List.{List}
 use mathlib.Core.Logic.{inl}
@@ -7,66 +8,97 @@ use native.Mathlib.Omega.{arith}
 use lib.ListN.{length}
 use Rattle.numbers.specs.Numbers.{numberAt, putNumber}
 use Rattle.numbers.proofs.FieldLaws.{Bytes, field-put}
-use Rattle.store.specs.Layout.{counterAt, keptAt, headAt, bookAt}
+use Rattle.replay.specs.Demand3.{depth}
+use Rattle.store.specs.Layout.{wordBytes, counterAt, keptAt, headAt, bookAt}
 use Rattle.store.specs.Stands.{counterOf}
 use Rattle.store.proofs.Frames.{Changes, widen, next, number-changes, number-stays}
+use Rattle.trains.specs.declared.kinds.Ticket.{Ticket}
 use Rattle.ledger.specs.Settled.{headed}
 
 -- a number that was put is read
 pub number-back : (n : ℕ) (s : List ℕ) (i x : ℕ) → i + n ≤ length s → x < 2 ^ (8 * n) → numberAt n (putNumber n s i x) i ≡ x
 number-back n s i x h l = field-put s (8 * i) (8 * n) x (omega arith) l
 
-module _ (s : List ℕ) (h : Bytes s) (counter kept head : ℕ) where
+-- three numbers of w bytes put
+unfoldable pub threePut : ℕ → List ℕ → ℕ → ℕ → ℕ → ℕ → ℕ → ℕ → List ℕ
+threePut w s i j k a b c = putNumber w (putNumber w (putNumber w s i a) j b) k c
+
+module _ (w : ℕ) (s : List ℕ) (h : Bytes s) (i j k a b c : ℕ) (second : j ≡ i + w) (third : k ≡ j + w) where
   one : List ℕ
-  one = putNumber 4 s counterAt counter
+  one = putNumber w s i a
 
   two : List ℕ
-  two = putNumber 4 one keptAt kept
+  two = putNumber w one j b
 
   three : List ℕ
-  three = putNumber 4 two headAt head
+  three = putNumber w two k c
 
-  change-one : Changes s one counterAt 4
+  change-one : Changes s one i w
   unfolding one
-  change-one = number-changes 4 s counterAt counter h
+  change-one = number-changes w s i a h
 
-  change-two : Changes one two keptAt 4
+  change-two : Changes one two j w
   unfolding two
-  change-two = number-changes 4 one keptAt kept (change-one .bytes)
+  change-two = number-changes w one j b (change-one .bytes)
 
-  change-three : Changes two three headAt 4
+  change-three : Changes two three k w
   unfolding three
-  change-three = number-changes 4 two headAt head (change-two .bytes)
+  change-three = number-changes w two k c (change-two .bytes)
 
-  put-is : headed s counter kept head ≡ three
-  unfolding headed one two three
+  put-is : threePut w s i j k a b c ≡ three
+  unfolding threePut one two three
   put-is = refl
 
-  three-changes : Changes s three 0 bookAt
+  -- only their bytes change
+  pub three-changes : Changes s (threePut w s i j k a b c) i (w + w + w)
   three-changes =
-      next (widen change-one 0 bookAt (omega arith) (omega arith))
-      (next (widen change-two 0 bookAt (omega arith) (omega arith)) (widen change-three 0 bookAt (omega arith) (omega arith)))
+      rw put-is
+      (next (widen change-one i (w + w + w) (omega arith) (omega arith))
+      (next (widen change-two i (w + w + w) (omega arith) (omega arith)) (widen change-three i (w + w + w) (omega arith) (omega arith))))
+
+  module _ (room : i + (w + w + w) ≤ length s) where
+    pub first-back : a < 2 ^ (8 * w) → numberAt w (threePut w s i j k a b c) i ≡ a
+    unfolding one
+    first-back l =
+        rw put-is
+        (number-stays change-three w i (inl (omega arith))
+        ∙ number-stays change-two w i (inl (omega arith))
+        ∙ number-back w s i a (omega arith) l)
+
+    pub second-back : b < 2 ^ (8 * w) → numberAt w (threePut w s i j k a b c) j ≡ b
+    unfolding two
+    second-back l =
+        rw put-is (number-stays change-three w j (inl (omega arith)) ∙ number-back w one j b (omega (arith, change-one .size)) l)
+
+    pub third-back : c < 2 ^ (8 * w) → numberAt w (threePut w s i j k a b c) k ≡ c
+    unfolding three
+    third-back l = rw put-is (number-back w two k c (omega (arith, change-one .size, change-two .size)) l)
+
+-- ---- the header
+
+-- a notch, and how many entries are kept, are numbers of a word
+pub word-small : (n : ℕ) → n ≤ depth → n < 2 ^ 32
+unfolding depth
+word-small n h = omega arith
+
+module _ (s : List ℕ) (h : Bytes s) (counter : Ticket) (kept head : ℕ) where
+  headed-is : headed s counter kept head ≡ threePut wordBytes s counterAt keptAt headAt (counter .0) kept head
+  unfolding headed threePut
+  headed-is = refl
 
   -- only the header changes
-  pub headed-changes : Changes s (headed s counter kept head) 0 bookAt
-  headed-changes = rw put-is three-changes
+  pub headed-changes : Changes s (headed s counter kept head) counterAt bookAt
+  headed-changes = rw headed-is (three-changes wordBytes s h counterAt keptAt headAt (counter .0) kept head refl refl)
 
   module _ (room : bookAt ≤ length s) where
-    pub headed-counter : counter < 2 ^ 32 → counterOf (headed s counter kept head) ≡ counter
-    unfolding one
+    pub headed-counter : counter .0 < 2 ^ 32 → counterOf (headed s counter kept head) ≡ counter
     headed-counter l =
-        rw put-is
-        (number-stays change-three 4 counterAt (inl (omega arith))
-        ∙ number-stays change-two 4 counterAt (inl (omega arith))
-        ∙ number-back 4 s counterAt counter (omega arith) l)
+        let number : numberAt wordBytes (headed s counter kept head) counterAt ≡ counter .0 =
+        rw headed-is (first-back wordBytes s h counterAt keptAt headAt (counter .0) kept head refl refl room l) in
+        λ k. record { 0 = number k }
 
-    pub headed-kept : kept < 2 ^ 32 → numberAt 4 (headed s counter kept head) keptAt ≡ kept
-    unfolding two
-    headed-kept l =
-        rw put-is
-        (number-stays change-three 4 keptAt (inl (omega arith))
-        ∙ number-back 4 one keptAt kept (omega (arith, change-one .size)) l)
+    pub headed-kept : kept < 2 ^ 32 → numberAt wordBytes (headed s counter kept head) keptAt ≡ kept
+    headed-kept l = rw headed-is (second-back wordBytes s h counterAt keptAt headAt (counter .0) kept head refl refl room l)
 
-    pub headed-head : head < 2 ^ 32 → numberAt 4 (headed s counter kept head) headAt ≡ head
-    unfolding three
-    headed-head l = rw put-is (number-back 4 two headAt head (omega (arith, change-one .size, change-two .size)) l)
+    pub headed-head : head < 2 ^ 32 → numberAt wordBytes (headed s counter kept head) headAt ≡ head
+    headed-head l = rw headed-is (third-back wordBytes s h counterAt keptAt headAt (counter .0) kept head refl refl room l)

@@ -2,8 +2,9 @@ pub mod CopyLaws
 pub mod Sizes
 pub mod MarkLaws
 pub mod HeaderLaws
-pub mod LogLaws
 pub mod EntryLaws
+pub mod PutLaws
+pub mod LogLaws
 pub mod SettledLaws
 pub mod BackLaws
 pub mod BoundsLaws

@@ -11,8 +11,8 @@ use Rattle.numbers.proofs.FieldLaws.{Bytes}
 use Rattle.trains.specs.Kinds.{lastSlot}
 use Rattle.trains.specs.Ranges.{oneTo}
 use Rattle.trains.proofs.RangeLaws.{one-to}
-use Rattle.store.specs.Effect.{slotMarked, marked}
-use Rattle.store.specs.Layout.{bookAt, rowsAt}
+use Rattle.rules.specs.Effect.{slotMarked, marked}
+use Rattle.store.specs.Layout.{bookAt, registerAt}
 use Rattle.store.specs.Stands.{bookOf}
 use Rattle.store.proofs.BookLaws.{length-marked, marked-past, marked-zero, marked-suc, length-book, book-back, book-same, book-twice, book-byte}
 use Rattle.store.proofs.Frames.{Changes, bytes-marked}
@@ -20,7 +20,7 @@ use Rattle.store.proofs.Stretches.{Outside, sets-out, bytes-sets, bytes-stretch
 use Rattle.ledger.specs.Settled.{bookMarked}
 use Rattle.ledger.proofs.Sizes.{length-book-marked}
 
-module _ (bs : List ℕ) (room : rowsAt ≤ length bs) where
+module _ (bs : List ℕ) (room : registerAt ≤ length bs) where
   -- a slot that is one of the book's marked
   pub slot-stored : (slot mark : ℕ) → oneTo lastSlot slot ≡ true → set bs (bookAt + (slot - 1)) mark ≡ bookMarked bs slot 1 mark
   unfolding bookMarked marked slotMarked
@@ -69,7 +69,7 @@ bytes-book-marked s slot n mark h m =
     bytes-sets s bookAt (marked (bookOf s) slot n mark) h (bytes-marked (bookOf s) slot n mark (bytes-stretch s lastSlot bookAt h) m)
 
 -- only the book changes
-pub book-changes : (s : List ℕ) (slot n mark : ℕ) → Bytes s → rowsAt ≤ length s → mark < 256
+pub book-changes : (s : List ℕ) (slot n mark : ℕ) → Bytes s → registerAt ≤ length s → mark < 256
     → Changes s (bookMarked s slot n mark) bookAt lastSlot
 book-changes s slot n mark h room m = record {
   size = length-book-marked s slot n mark;

@@ -1,47 +1,72 @@
--- The log: what an entry keeps of the view before an operation, how it is undone, and the entries in a session's bytes.
+-- The log: what an entry keeps before an operation, how it is undone, and the entries in a session's bytes. An entry is itself an effect, the
+-- one that undoes the operation: the run of slots with its mark before, and the rows as they were.
+use mathlib.Core.Bool.{Bool, true, cond, not}
 use mathlib.Core.List.{List}
-use Prim.Native.Nat.{ℕ, _+_}
-use lib.ListN.{take, drop}
+use mathlib.Core.Path.{_≡_}
+use Prim.Native.Nat.{ℕ, _+_, _≤_, _<_}
+use lib.Dec.{eqb, ltb}
 use Rattle.numbers.specs.Numbers.{numberAt}
 use Rattle.replay.specs.Demand3.{depth}
 use Rattle.replay.specs.Ring.{readBack}
 use Rattle.rows.specs.Row.{rowAt}
-use Rattle.trains.specs.Kinds.{lastSlot}
-use Rattle.store.specs.declared.effect.Change.{Change}
-use Rattle.store.specs.declared.effect.Effect.{Effect}
-use Rattle.store.specs.Effect.{rowChanged}
-use Rattle.store.specs.Layout.{entryPlace, oneAt, otherAt}
-use Rattle.store.specs.Stands.{View, rowIn, keptOf, headOf}
+use Rattle.rules.specs.Effect.{markFor, change, noChange, applied}
+use Rattle.rules.specs.View.{View, rowIn, markOf}
+use Rattle.rules.specs.declared.effect.Change.{Change}
+use Rattle.rules.specs.declared.effect.Effect.{Effect}
+use Rattle.store.specs.Layout.{entryOffset, slotsAt, markAt, changedAt, alsoAt}
+use Rattle.store.specs.Stands.{keptOf, headOf}
+use Rattle.trains.specs.Kinds.{slotInRange}
+use Rattle.trains.specs.Sought.{rowCount}
+use Rattle.trains.specs.declared.kinds.Slot.{Slot}
 
--- what one operation can change: the book, and two rows with their numbers
-pub record Entry : Type 0 where
-  pub book : List ℕ
-  pub one : Change
-  pub other : Change
+-- what an entry keeps: a run of slots and whether it was taken, a row as it was, and a second one where there is one
+abbrev pub Entry : Type 0
+Entry = Effect
 
 -- a row as it is now
 abbrev pub rowNow : View → ℕ → Change
-rowNow v i = record { row = i; train = rowIn v i }
+rowNow v i = change i (rowIn v i)
 
--- what is kept before an effect is taken in
+-- what is kept before an effect is taken in: the run was marked the other way
 unfoldable pub saved : View → Effect → Entry
-saved v e = record { book = v .book; one = rowNow v (e .one .row); other = rowNow v (e .other .row) }
-
--- an entry undone: the book and both rows as they were; a row number that is none of the register's restores nothing
-unfoldable pub undone : Entry → View → View
-undone e v = record { rows = rowChanged (rowChanged (v .rows) (e .one)) (e .other); book = e .book }
-
--- a row's number and the row, as an entry keeps them from a byte on
-abbrev pub changeAt : List ℕ → ℕ → Change
-changeAt bs i = record { row = numberAt 1 bs i; train = rowAt bs (i + 1) }
-
--- the entry at a place of the ring
-unfoldable pub entryIn : List ℕ → ℕ → Entry
-entryIn bs p = record {
-  book = take lastSlot (drop (entryPlace p) bs);
-  one = changeAt bs (oneAt (entryPlace p));
-  other = changeAt bs (otherAt (entryPlace p));
+saved v e = record {
+  start = e .start;
+  slots = e .slots;
+  taken = not (e .taken);
+  changed = rowNow v (e .changed .row);
+  also = rowNow v (e .also .row);
 }
+
+-- an entry undone: the run's mark and the rows as they were
+abbrev pub undone : Entry → View → View
+undone e v = applied v e
+
+-- the run that an effect marks is marked the other way before, in each of its slots that is one of the book's
+abbrev pub RunHolds : View → Effect → Type 0
+RunHolds v e = (slot : Slot) → slotInRange slot ≡ true → e .start .0 ≤ slot .0 → slot .0 < e .start .0 + e .slots
+    → markOf (v .book) slot ≡ markFor (not (e .taken))
+
+-- a row's number and the row, as an entry keeps them from a byte on; behind a number that is none of the register's no row is kept
+unfoldable pub changeAt : List ℕ → ℕ → Change
+changeAt bs i = cond (ltb (numberAt 1 bs i) rowCount) (change (numberAt 1 bs i) (rowAt bs (i + 1))) noChange
+
+-- whether the run of the entry that starts at e was taken
+abbrev pub takenAt : List ℕ → ℕ → Bool
+takenAt bs e = not (eqb (numberAt 1 bs (markAt e)) 0)
+
+-- the entry that starts at e
+unfoldable pub entryAt : List ℕ → ℕ → Entry
+entryAt bs e = record {
+  start = record { 0 = numberAt 1 bs e };
+  slots = numberAt 1 bs (slotsAt e);
+  taken = takenAt bs e;
+  changed = changeAt bs (changedAt e);
+  also = changeAt bs (alsoAt e);
+}
+
+-- the entry in a notch of the ring
+abbrev pub entryIn : List ℕ → ℕ → Entry
+entryIn bs notch = entryAt bs (entryOffset notch)
 
 -- the entries kept, the newest first
 abbrev pub logOf : List ℕ → List Entry

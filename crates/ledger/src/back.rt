@@ -1,24 +1,31 @@
 // Entries undone, the latest first.
-use crate::entry;
-use rows::register;
-use rows::row;
+use crate::book;
 use store::layout;
 use store::view;
 ghost use mathlib.Core.Path.{_≡_};
 ghost use Prim.Native.Nat.{_+_, _-_, _≤_};
 ghost use lib.ListN.{length};
 ghost use Rattle.store.specs.Layout.{sessionBytes, logAt, entryBytes, keptRowBytes};
-ghost use Rattle.ledger.specs.Back.{rowBack, entryBack, stepped, steppedBy, steppedIn};
+ghost use Rattle.ledger.specs.Back.{runBack, rowBack, entryBack, stepped, steppedBy, steppedIn};
+
+// The run of the entry that starts at a byte, marked as it was.
+fn restore_run(s: &mut [u8], at: usize)
+    requires { ⌜ (length (now s) ≡ sessionBytes) × (at + entryBytes ≤ sessionBytes) ⌝ }
+    ensures { λ _. ⌜ now (s .exit) ≡ runBack (now (s .entry)) at ⌝ }
+{
+    let start = numbers::byte_at(s, at);
+    let slots = numbers::byte_at(s, at + layout::RUN_SLOTS);
+    let taken = numbers::byte_at(s, at + layout::RUN_MARK) != 0;
+    book::mark_slots(s, start, slots, book::mark_for(taken));
+}
 
 // The row that the log keeps from a byte on, put back; a number that is none of the register's restores nothing.
 fn restore_row(s: &mut [u8], at: usize)
     requires { ⌜ (length (now s) ≡ sessionBytes) × (logAt ≤ at) × (at + keptRowBytes ≤ sessionBytes) ⌝ }
     ensures { λ _. ⌜ now (s .exit) ≡ rowBack (now (s .entry)) at ⌝ }
 {
-    let i = numbers::byte_at(s, at);
-    if (i as usize) < register::ROWS {
-        crate::copy_bytes(s, row::ROW, at + 1, layout::row_place(i));
-    }
+    let number = numbers::byte_at(s, at);
+    crate::copy_row(s, number, at + 1, layout::row_offset(number));
 }
 
 // The entry that starts at a byte undone.
@@ -26,9 +33,9 @@ fn restore_entry(s: &mut [u8], at: usize)
     requires { ⌜ (length (now s) ≡ sessionBytes) × (logAt ≤ at) × (at + entryBytes ≤ sessionBytes) ⌝ }
     ensures { λ _. ⌜ now (s .exit) ≡ entryBack (now (s .entry)) at ⌝ }
 {
-    crate::copy_bytes(s, entry::BOOK_BYTES, at, layout::BOOK);
-    restore_row(s, at + entry::ONE);
-    restore_row(s, at + entry::OTHER);
+    restore_run(s, at);
+    restore_row(s, at + layout::CHANGED);
+    restore_row(s, at + layout::ALSO);
 }
 
 // One fewer, where there is one.
@@ -45,8 +52,8 @@ fn step_one(s: &mut [u8])
 {
     let counter = view::counter(s);
     let kept = one_less(view::kept(s));
-    let head = replay::place_before(view::head(s));
-    restore_entry(s, crate::entry_place(head));
+    let head = replay::notch_before(view::head(s));
+    restore_entry(s, crate::entry_offset(head));
     crate::put_header(s, counter, kept, head);
 }
 

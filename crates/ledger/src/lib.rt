@@ -1,19 +1,24 @@
 // What moves a session: an effect taken into its bytes, with the entry that undoes it kept in the log's ring, and entries undone. All
-// places are defined in store's specs; those of the log are in `entry`. Here is what keeping and undoing share.
+// offsets are store's. Here is what keeping and undoing share.
 pub mod back;
-mod entry;
+mod book;
 pub mod settled;
 
+use rows::row;
 use store::layout;
+use trains::kinds::Ticket;
+use trains::sought::ROWS;
 ghost use mathlib.Core.Path.{_≡_};
 ghost use Prim.Native.Nat.{_^_, _<_};
 ghost use lib.ListN.{length};
 ghost use Rattle.replay.specs.Demand3.{depth};
-ghost use Rattle.store.specs.Layout.{entryPlace};
-ghost use Rattle.ledger.specs.Copied.{copied, Apart};
+ghost use Rattle.rows.specs.Row.{rowBytes};
+ghost use Rattle.trains.specs.Sought.{rowCount};
+ghost use Rattle.store.specs.Layout.{entryOffset};
+ghost use Rattle.ledger.specs.Copied.{copied, Apart, rowCopied, RowApart};
 ghost use Rattle.ledger.specs.Settled.{headed};
 
-// `n` bytes from a place on, to another that has none of them.
+// `n` bytes from an offset on, to another that has none of them.
 fn copy_bytes(s: &mut [u8], n: usize, from: usize, to: usize)
     requires { ⌜ Apart n from to (length (now s)) ⌝ }
     ensures { λ _. ⌜ now (s .exit) ≡ copied (now (s .entry)) n from to ⌝ }
@@ -25,20 +30,30 @@ fn copy_bytes(s: &mut [u8], n: usize, from: usize, to: usize)
     }
 }
 
-// The entry at a place of the ring.
-fn entry_place(p: usize) -> usize
-    requires { ⌜ p < depth ⌝ }
-    ensures { λ r. ⌜ r ≡ entryPlace p ⌝ }
+// Row i, where it is one of the register's, from an offset to another.
+fn copy_row(s: &mut [u8], i: u32, from: usize, to: usize)
+    requires { ⌜ RowApart i from to (length (now s)) ⌝ }
+    ensures { λ _. ⌜ now (s .exit) ≡ rowCopied (now (s .entry)) i from to ⌝ }
 {
-    entry::LOG + entry::BYTES * p
+    if (i as usize) < ROWS {
+        copy_bytes(s, row::ROW, from, to);
+    }
 }
 
-// The header: the ticket counter, the entries kept and the place that the next entry goes to.
-fn put_header(s: &mut [u8], counter: u32, kept: usize, head: usize)
+// The entry in a notch of the ring.
+fn entry_offset(notch: usize) -> usize
+    requires { ⌜ notch < depth ⌝ }
+    ensures { λ r. ⌜ r ≡ entryOffset notch ⌝ }
+{
+    layout::LOG + layout::ENTRY * notch
+}
+
+// The header: the ticket counter, the entries kept and the notch that the next entry goes to.
+fn put_header(s: &mut [u8], counter: Ticket, kept: usize, head: usize)
     requires { ⌜ (kept < 2 ^ 32) × (head < 2 ^ 32) ⌝ }
     ensures { λ _. ⌜ now (s .exit) ≡ headed (now (s .entry)) counter kept head ⌝ }
 {
-    numbers::put_word(s, layout::COUNTER, counter);
+    numbers::put_word(s, layout::COUNTER, counter.0);
     numbers::put_word(s, layout::KEPT, kept as u32);
     numbers::put_word(s, layout::HEAD, head as u32);
 }

@@ -3,7 +3,7 @@ use Prim.Native.Nat.{ℕ, zero, suc, _+_, _*_, _-_, _≤_, _<_}
 use mathlib.Core.Bool.{Bool, true, false, cond}
 use mathlib.Core.List.{List}
 use mathlib.Core.Logic.{⊎-elim, _⊎_, inl, inr}
-use mathlib.Core.Path.{_≡_, _∙_}
+use mathlib.Core.Path.{_≡_, refl, _∙_}
 use native.Mathlib.Omega.{arith}
 use lib.ListN.{length, getD, set, take, drop}
 use Rattle.numbers.specs.Numbers.{numberAt, putNumber}
@@ -27,6 +27,10 @@ pub record Changes (s t : List ℕ) (at n : ℕ) : Type 0 where
   pub size : length t ≡ length s
   pub bytes : Bytes t
   pub out : (k : ℕ) → Outside at n k → getD t k 0 ≡ getD s k 0
+
+-- nothing is changed
+pub unchanged : {s : List ℕ} {at n : ℕ} → Bytes s → Changes s s at n
+unchanged h = record { size = refl; bytes = h; out = λ k o. refl }
 
 -- the same, of a longer stretch
 pub widen : {s t : List ℕ} {at n : ℕ} → Changes s t at n → (lo m : ℕ) → lo ≤ at → at + n ≤ lo + m → Changes s t lo m
