@@ -8,9 +8,9 @@ use Rattle.session.proofs.operations.on.Tie as tie
 
 returns : tie.Need-returns
 returns c =
-    let a = PATHARGS .args in
+    let a = c .before .before .before .before .before .before .before .before .before .args in
     let made = c .before .before .commit in
-    committed (a .session .now) (Op.on (a .loco) (a .ticket) (meant (a .deed) (a .flags .now))) _ _ _ _ (PATHUSUAL .usual .ensures) (PATHJ .on .ensures) (made .ensures .0) (made .ensures .1)
+    committed (a .session .now) (Op.on (a .loco) (a .ticket) (meant (a .deed) (a .flags .now))) _ _ _ _ (c .before .before .before .before .before .usual .ensures) (c .before .before .before .before .on .ensures) (made .ensures .0) (made .ensures .1)
 
 pub on-spec : {M : Type 1} → statement M
-on-spec = tie.close (tie.spec ?)
+on-spec = tie.close (tie.spec (λ c κs. search needs) (λ c κs. search needs) (λ c κs. search needs) (λ c. search needs) returns)

@@ -7,9 +7,9 @@ use Rattle.session.proofs.operations.release.Tie as tie
 
 returns : tie.Need-returns
 returns c =
-    let a = PATHARGS .args in
+    let a = c .before .before .before .before .before .before .before .before .args in
     let made = c .before .before .commit in
-    committed (a .session .now) (Op.release (a .loco) (a .ticket)) _ _ _ _ (PATHUSUAL .usual .ensures) (PATHJ .release .ensures) (made .ensures .0) (made .ensures .1)
+    committed (a .session .now) (Op.release (a .loco) (a .ticket)) _ _ _ _ (c .before .before .before .before .before .usual .ensures) (c .before .before .before .before .release .ensures) (made .ensures .0) (made .ensures .1)
 
 pub release-spec : {M : Type 1} → statement M
-release-spec = tie.close (tie.spec ?)
+release-spec = tie.close (tie.spec (λ c κs. search needs) (λ c κs. search needs) (λ c κs. search needs) (λ c. search needs) returns)
