@@ -1,19 +1,19 @@
 -- Laws of `Fields`, each once for every width: what a read gives of what was written, and what a write leaves alone.
--- Assumes nothing.
 use mathlib.Core.Path.{_≡_, refl, sym, ap, ap₂, _∙_, subst}
 use mathlib.Core.List.{List}
 use mathlib.Core.Logic.{⊎-elim, ⊎-map, _⊎_, inl, inr, _≢_}
-use native.Mathlib.Decide.{decLt, ℕ-discrete}
+use native.Mathlib.Decide.{ℕ-discrete}
 use lib.Arith.{digits-lt}
 use Prim.Native.Nat.{ℕ, zero, suc, _+_, _-_, _*_, _/_, _%_, _^_, _≤_, _<_}
 use native.Mathlib.Nat.{add-zero, add-suc, add-assoc, pow-suc, mod-lt, mul-assoc, mul-add-mod-self-right, mod-eq-of-lt, div-lt-iff-lt-mul, div-add-mod', eq-or-lt-of-le, zero-div, mul-add-div-right, mul-comm, mod-one, div-one, lt-of-lt-of-le}
 use native.Mathlib.Omega.{arith}
-use lib.ListN.{length, getD, set, length-set, List·getD-eq-default}
-use lib.Seq.{getD-set-same, getD-set-other, set-out, ext-getD}
+use lib.ListN.{length, getD, set, take, length-set, List·getD-eq-default}
+use lib.Seq.{getD-set-same, getD-set-other, set-out, ext-getD, getD-take}
 use lib.Pow.{pow-pos, pow-mono, pow-add, high, shr-shr, shr-lt, split, mod-pow-add, mod-mod-pow}
 use lib.Pow.{field as mod-pow-div}
 use native.Mathlib.Numerals.{add-one, one-add}
 use Rattle.numbers.specs.Fields.{bitAt, field, withDigit, putBit, put}
+pub use Rattle.numbers.proofs.Logic.{lt-or-le}
 
 -- ---- reading
 
@@ -50,6 +50,11 @@ unfolding field
 field-ext s t p zero h = refl
 field-ext s t p (suc w) h =
     ap₂ (λ (a b : ℕ). a * 2 + b) (field-ext s t p w (λ i l. h i (omega arith))) (h w (omega arith))
+
+-- the fields of a list that lie in its first n bytes are those of these bytes
+pub field-front : (s : List ℕ) (p w n : ℕ) → p + w ≤ 8 * n → field (take n s) p w ≡ field s p w
+unfolding bitAt
+field-front s p w n h = field-ext (take n s) s p w (λ i l. rw (getD-take n s ((p + i) / 8) 0 (omega arith)))
 
 -- a field is a field, and the field behind it
 pub field-add : (s : List ℕ) (p a b : ℕ) → field s p (a + b) ≡ field s p a * 2 ^ b + field s (p + a) b
@@ -132,13 +137,6 @@ digit-byte x k b h l f =
 
 -- ---- writing one bit
 
-pub lt-or-le : (a b : ℕ) → (a < b) ⊎ (b ≤ a)
-lt-or-le a b = of (decLt a b)
-  where
-    of : Dec (a < b) → (a < b) ⊎ (b ≤ a)
-    of (yes h) = inl h
-    of (no h) = inr (omega arith)
-
 pub length-putBit : (s : List ℕ) (p b : ℕ) → length (putBit s p b) ≡ length s
 unfolding putBit
 length-putBit s p b = simp length-set
@@ -219,7 +217,7 @@ field-put-out s p w v q n h =
     field-ext (put s p w v) s q n
     (λ i l. bit-put-out s p w v (q + i) (⊎-map (λ a. omega arith) (λ a. omega arith) h))
 
--- writing what t has at a place makes the bits there those of t
+-- writing what t has at a bit position makes the bits there those of t
 pub bit-put-field : (s t : List ℕ) (p w q : ℕ) → p + w ≤ 8 * length s → p ≤ q → q < p + w → bitAt (put s p w (field t p w)) q ≡ bitAt t q
 unfolding put field
 bit-put-field s t p zero q h a b = omega arith
@@ -275,7 +273,7 @@ same-byte s t i hs ht h =
 pub same-bytes : (s t : List ℕ) (n i : ℕ) → Bytes s → Bytes t → ((q : ℕ) → q < 8 * n → bitAt s q ≡ bitAt t q) → i < n → getD s i 0 ≡ getD t i 0
 same-bytes s t n i hs ht h l = same-byte s t i hs ht (λ q a b. h q (omega arith))
 
--- writing what is read at a place changes nothing
+-- writing what is read at a bit position changes nothing
 pub put-field : (s : List ℕ) (p w : ℕ) → Bytes s → p + w ≤ 8 * length s → put s p w (field s p w) ≡ s
 put-field s p w hs h =
     ext-getD 0 (put s p w (field s p w)) s (length-put s p w (field s p w))

@@ -1,3 +1,4 @@
+pub mod Logic
 pub mod FieldLaws
-pub mod RowLaws
+pub mod PieceLaws
 pub mod NumberLaws

@@ -1,4 +1,4 @@
--- Laws of byte-aligned numbers, each for any number of bytes. Assumes nothing.
+-- Laws of byte-aligned numbers, each for any number of bytes.
 use mathlib.Core.Path.{_≡_, ap, ap₂, _∙_}
 use mathlib.Core.List.{List}
 use Prim.Native.Nat.{ℕ, _+_, _*_, _/_, _^_, _≤_, _<_}

@@ -1,4 +1,4 @@
--- A list of bytes as a row of bits, and the w-bit field at a bit position, for any width w. Bits run from the top bit of the first
+-- A list of bytes as a list of bits, and the w-bit field at a bit position, for any width w. Bits run from the top bit of the first
 -- byte. Past the end of the list every bit reads as 0, and putting one there does nothing.
 use Prim.Native.Nat.{ℕ, zero, suc, _+_, _-_, _*_, _/_, _%_, _^_}
 use mathlib.Core.List.{List}

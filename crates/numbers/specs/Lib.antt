@@ -1,3 +1,3 @@
 pub mod Fields
-pub mod Rows
+pub mod Pieces
 pub mod Numbers

@@ -2,7 +2,7 @@
 // would be put there is dropped. What they mean is a field at a bit position, which `specs` says for every width.
 ghost use mathlib.Core.Path.{_≡_};
 ghost use Prim.Native.Nat.{_%_};
-ghost use Rattle.numbers.specs.Numbers.{numberAt, putNumber};
+ghost use Rattle.numbers.specs.Numbers.{numberAt, putNumber, oneIf};
 
 fn wide(x: u8) -> u32
     ensures { λ r. ⌜ r ≡ x ⌝ }
@@ -20,7 +20,9 @@ pub fn half_at(s: &[u8], i: usize) -> u32
     ensures { λ r. ⌜ r ≡ numberAt 2 (now (s .entry)) i ⌝ }
 {
     if i < s.len() {
-        byte_at(s, i) * 256 + byte_at(s, i + 1)
+        let high = byte_at(s, i);
+        let low = byte_at(s, i + 1);
+        high * 256 + low
     } else {
         0
     }
@@ -30,7 +32,9 @@ pub fn word_at(s: &[u8], i: usize) -> u32
     ensures { λ r. ⌜ r ≡ numberAt 4 (now (s .entry)) i ⌝ }
 {
     if i < s.len() {
-        half_at(s, i) * 65536 + half_at(s, i + 2)
+        let high = half_at(s, i);
+        let low = half_at(s, i + 2);
+        high * 65536 + low
     } else {
         0
     }
@@ -66,4 +70,11 @@ pub fn put_word(out: &mut [u8], i: usize, x: u32)
         put_half(out, i + 2, x);
         put_half(out, i, x / 65536);
     }
+}
+
+// A test as a number: 1 where it holds, 0 where it does not.
+pub fn one_if(holds: bool) -> u32
+    ensures { λ r. ⌜ r ≡ oneIf holds ⌝ }
+{
+    if holds { 1 } else { 0 }
 }

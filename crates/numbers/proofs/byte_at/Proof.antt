@@ -1,4 +1,4 @@
--- `numbers::byte_at` meets its contract. Assumes nothing.
+-- `numbers::byte_at` meets its contract.
 use mathlib.Core.Path.{sym, _∙_}
 use Rattle.numbers.proofs.NumberLaws.{number-byte, number-past}
 use borrow.Author.Needs.{needs}

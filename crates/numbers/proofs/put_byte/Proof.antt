@@ -1,4 +1,4 @@
--- `numbers::put_byte` meets its contract. Assumes nothing.
+-- `numbers::put_byte` meets its contract.
 use Prim.Native.Nat.{ℕ}
 use mathlib.Core.Path.{sym, ap, _∙_}
 use lib.ListN.{set}

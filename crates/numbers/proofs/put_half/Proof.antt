@@ -1,4 +1,4 @@
--- `numbers::put_half` meets its contract: two numbers side by side. Assumes nothing.
+-- `numbers::put_half` meets its contract: two numbers side by side.
 use Prim.Native.Nat.{ℕ, _/_}
 use mathlib.Core.Path.{sym, ap, _∙_}
 use mathlib.Core.List.{List}

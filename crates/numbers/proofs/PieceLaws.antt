@@ -1,4 +1,4 @@
--- Laws of rows of fields, each for any row of widths. Assumes nothing.
+-- Laws of pieces, each for any list of widths.
 use mathlib.Core.Path.{_≡_, refl, sym, ap, ap₂, _∙_}
 use mathlib.Core.List.{List, [], _∷_, _++_, append-assoc}
 use mathlib.Core.Logic.{⊎-elim, _⊎_, inl, inr}
@@ -9,8 +9,8 @@ use native.Mathlib.Omega.{arith}
 use lib.ListN.{length, getD, set, take, drop, length-append, length-take, length-drop}
 use lib.Seq.{sets, ext-getD, getD-take, getD-drop, drop-cons, drop-drop}
 use Rattle.numbers.specs.Fields.{bitAt, field, put}
-use Rattle.numbers.proofs.FieldLaws.{length-put, bit-put-out, field-put, field-put-out, bit-put-field, field-ext, Bytes, bytes-put, same-byte, same-bytes, lt-or-le}
-use Rattle.numbers.specs.Rows.{total, times, unpack, pack}
+use Rattle.numbers.proofs.FieldLaws.{length-put, field-front, bit-put-out, field-put, field-put-out, bit-put-field, field-ext, Bytes, bytes-put, same-byte, same-bytes, lt-or-le}
+use Rattle.numbers.specs.Pieces.{total, times, unpack, pack}
 
 pub length-unpack : (s : List ℕ) (p : ℕ) (ws : List ℕ) → length (unpack s p ws) ≡ length ws
 unfolding unpack
@@ -30,11 +30,18 @@ unfolding total
 total-append [] ws = omega arith
 total-append (v ∷ vs) ws = omega (arith, total-append vs ws)
 
--- a row is a row, and the row behind it
+-- pieces are the first of them, and those behind
 pub unpack-append : (s : List ℕ) (p : ℕ) (vs ws : List ℕ) → unpack s p (vs ++ ws) ≡ unpack s p vs ++ unpack s (p + total vs) ws
 unfolding unpack total
 unpack-append s p [] ws = rw add-zero
 unpack-append s p (v ∷ vs) ws = ap (λ (l : List ℕ). field s p v ∷ l) (rw (unpack-append s (p + v) vs ws, add-assoc))
+
+-- the pieces that lie in the first n bytes of a list are those of these bytes
+pub unpack-front : (s : List ℕ) (p : ℕ) (ws : List ℕ) (n : ℕ) → p + total ws ≤ 8 * n → unpack (take n s) p ws ≡ unpack s p ws
+unfolding unpack total
+unpack-front s p [] n h = refl
+unpack-front s p (w ∷ ws) n h =
+    ap₂ (λ (x : ℕ) (l : List ℕ). x ∷ l) (field-front s p w n (omega arith)) (unpack-front s (p + w) ws n (omega arith))
 
 pub length-pack : (s : List ℕ) (p : ℕ) (ws vs : List ℕ) → length (pack s p ws vs) ≡ length s
 unfolding pack
@@ -48,7 +55,7 @@ bytes-pack s p [] vs h = h
 bytes-pack s p (w ∷ ws) [] h = h
 bytes-pack s p (w ∷ ws) (v ∷ vs) h = bytes-pack (put s p w v) (p + w) ws vs (bytes-put s p w v h)
 
--- the bits before a row and behind it stay
+-- the bits before the pieces and behind them stay
 pub bit-pack-out : (s : List ℕ) (p : ℕ) (ws vs : List ℕ) (q : ℕ) → (q < p) ⊎ (p + total ws ≤ q) → bitAt (pack s p ws vs) q ≡ bitAt s q
 unfolding pack total
 bit-pack-out s p [] vs q h = refl
@@ -64,7 +71,7 @@ bit-pack-out s p (w ∷ ws) (v ∷ vs) q h =
     here (inl a) = inl a
     here (inr a) = inr (omega arith)
 
--- writing what s has in a row makes the bits of that row those of s
+-- writing what s has in its pieces makes their bits those of s
 pub bit-pack-unpack : (o s : List ℕ) (p : ℕ) (ws : List ℕ) (q : ℕ) → p + total ws ≤ 8 * length o → p ≤ q → q < p + total ws → bitAt (pack o p ws (unpack s p ws)) q ≡ bitAt s q
 unfolding pack unpack total
 bit-pack-unpack o s p [] q f a b = absurd (omega arith)
@@ -90,7 +97,7 @@ unpack-pack s p (one {w} {v} {ws} {vs} h r) f =
     ∙ field-put s p w v (omega arith) h in
     ap₂ (λ (x : ℕ) (l : List ℕ). x ∷ l) e (unpack-pack t (p + w) r (rw length-put (omega arith)))
 
--- the round trip: where a row takes whole bytes, writing what was read from s gives those bytes of s again
+-- the round trip: where the pieces take whole bytes, writing what was read from s gives those bytes of s again
 pub round-trip : (o s : List ℕ) (n : ℕ) (ws : List ℕ) → Bytes o → Bytes s → total ws ≡ 8 * n → n ≤ length o → n ≤ length s
     → take n (pack o 0 ws (unpack s 0 ws)) ≡ take n s
 round-trip o s n ws ho hs e fo fs =
@@ -105,7 +112,7 @@ round-trip o s n ws ho hs e fo fs =
     (λ q k. bit-pack-unpack o s 0 ws q (omega arith) (omega arith) (omega arith)) m
     ∙ sym (getD-take n s i 0 m))
 
--- the bytes behind a row of whole bytes stay
+-- the bytes behind pieces that take whole bytes stay
 pub pack-past : (o : List ℕ) (n : ℕ) (ws vs : List ℕ) → Bytes o → total ws ≡ 8 * n → drop n (pack o 0 ws vs) ≡ drop n o
 pack-past o n ws vs ho e =
     let t : List ℕ = pack o 0 ws vs in
@@ -128,7 +135,7 @@ pub sets-append : (l : List ℕ) (i : ℕ) (xs ys : List ℕ) → sets l i (xs +
 sets-append l i [] ys = rw add-zero
 sets-append l i (x ∷ xs) ys = rw (add-suc, ← suc-add) (sets-append _ (suc i) xs ys)
 
--- a turn of the loop that stores a row's fields: what is left to store, stored, stays the same
+-- a turn of the loop that stores the pieces: what is left to store, stored, stays the same
 pub fill-step : (l s : List ℕ) (i q : ℕ) (ws : List ℕ) (j w : ℕ) → j < length ws → w ≡ getD ws j 0
     → sets (set l i (field s q w)) (i + 1) (unpack s (q + w) (drop (j + 1) ws)) ≡ sets l i (unpack s q (drop j ws))
 fill-step l s i q ws j w h e =
@@ -138,10 +145,10 @@ pub times-suc : (n : ℕ) (ws : List ℕ) → times (suc n) ws ≡ ws ++ times n
 unfolding times
 times-suc n ws = refl
 
--- the same for a whole row of m rows
-pub fill-row : (l s : List ℕ) (i p : ℕ) (ws : List ℕ) (m k t : ℕ) → 0 < m → length ws ≡ k → total ws ≡ t
+-- the same where the pieces come m times, and a turn stores all of one time
+pub fill-times : (l s : List ℕ) (i p : ℕ) (ws : List ℕ) (m k t : ℕ) → 0 < m → length ws ≡ k → total ws ≡ t
     → sets (sets l i (unpack s p ws)) (i + k) (unpack s (p + t) (times (m - 1) ws)) ≡ sets l i (unpack s p (times m ws))
-fill-row l s i p ws m k t h ek et =
+fill-times l s i p ws m k t h ek et =
     let e : m ≡ suc (m - 1) = omega arith in
     rw (← ek, ← et)
     (ap (λ (n : ℕ). sets (sets l i (unpack s p ws)) (i + n) (unpack s (p + total ws) (times (m - 1) ws))) (sym (length-unpack s p ws))
@@ -162,7 +169,7 @@ pub pack-zero : (o : List ℕ) (p : ℕ) (vs : List ℕ) → pack o p [] vs ≡ 
 unfolding pack
 pack-zero o p vs = refl
 
--- a row and the row behind it, with the values of both in one list
+-- the first of the pieces and those behind, with the values of both in one list
 pub pack-append : (o : List ℕ) (p : ℕ) (ws bs vs : List ℕ)
     → pack o p (ws ++ bs) vs ≡ pack (pack o p ws vs) (p + total ws) bs (drop (length ws) vs)
 unfolding pack total
@@ -172,23 +179,23 @@ pack-append o p (a ∷ ws) bs (v ∷ vs) =
     pack-append (put o p a v) (p + a) ws bs vs
     ∙ ap (λ (q : ℕ). pack (pack (put o p a v) (p + a) ws vs) q bs (drop (length ws) vs)) (add-assoc p a (total ws))
 
--- values past the row are not looked at
+-- values past the pieces are not looked at
 pub pack-extra : (o : List ℕ) (p : ℕ) (ws xs ys : List ℕ) → length ws ≡ length xs → pack o p ws (xs ++ ys) ≡ pack o p ws xs
 unfolding pack
 pack-extra o p [] xs ys e = refl
 pack-extra o p (w ∷ ws) [] ys e = absurd (omega arith)
 pack-extra o p (w ∷ ws) (x ∷ xs) ys e = pack-extra (put o p w x) (p + w) ws xs ys (omega arith)
 
--- a turn of the loop that writes a row's fields
+-- a turn of the loop that writes the pieces
 pub put-step : (o vs : List ℕ) (q : ℕ) (ws : List ℕ) (i j w : ℕ) → j < length ws → i < length vs → w ≡ getD ws j 0
     → pack (put o q w (getD vs i 0)) (q + w) (drop (j + 1) ws) (drop (i + 1) vs) ≡ pack o q (drop j ws) (drop i vs)
 unfolding pack
 put-step o vs q ws i j w hj hi e = rw (add-one, add-one, e, drop-cons ws j 0 hj, drop-cons vs i 0 hi)
 
--- the same for a whole row of m rows
-pub put-row : (o vs : List ℕ) (i p : ℕ) (ws : List ℕ) (m k t : ℕ) → 0 < m → length ws ≡ k → total ws ≡ t
+-- the same where the pieces come m times, and a turn writes all of one time
+pub put-times : (o vs : List ℕ) (i p : ℕ) (ws : List ℕ) (m k t : ℕ) → 0 < m → length ws ≡ k → total ws ≡ t
     → pack (pack o p ws (drop i vs)) (p + t) (times (m - 1) ws) (drop (i + k) vs) ≡ pack o p (times m ws) (drop i vs)
-put-row o vs i p ws m k t h ek et =
+put-times o vs i p ws m k t h ek et =
     let e : m ≡ suc (m - 1) = omega arith in
     rw (← ek, ← et)
     (ap (λ (l : List ℕ). pack (pack o p ws (drop i vs)) (p + total ws) (times (m - 1) ws) l) (sym (drop-drop (length ws) i vs))
