@@ -1,4 +1,4 @@
--- What a header that is not refused tells. Assumes nothing.
+-- What a header that is not refused tells.
 use mathlib.Core.Path.{_≡_}
 use mathlib.Core.List.{List}
 use Prim.Native.Nat.{ℕ, _≤_}

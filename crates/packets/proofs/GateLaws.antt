@@ -1,4 +1,4 @@
--- Laws of a gate's layout. Assumes nothing.
+-- Laws of a gate's layout.
 use mathlib.Core.Path.{_≡_, refl, sym, ap, _∙_}
 use mathlib.Core.List.{List, [], _∷_}
 use Prim.Native.Nat.{ℕ, zero, suc, _+_, _-_, _*_, _^_, _≤_, _<_}
@@ -8,10 +8,10 @@ use lib.Pow.{pow-mono}
 use lib.Dec.{lit≤}
 use lib.ListN.{length, getD}
 use Rattle.numbers.specs.Fields.{field}
-use Rattle.numbers.specs.Rows.{total, times}
+use Rattle.numbers.specs.Pieces.{total, times}
 use Rattle.packets.specs.Gates.{gateWidths, gateBits, bitsOf}
 use Rattle.numbers.proofs.FieldLaws.{field-lt}
-use Rattle.numbers.proofs.RowLaws.{total-times}
+use Rattle.numbers.proofs.PieceLaws.{total-times}
 
 pub total-gate : (distance : ℕ) → 8 ≤ distance → total (gateWidths distance) ≡ gateBits distance
 unfolding total gateWidths

@@ -4,3 +4,4 @@ pub mod GateLaws
 pub mod ReadingLaws
 pub mod WritingLaws
 pub mod RoundTrip
+pub mod BehindLaws

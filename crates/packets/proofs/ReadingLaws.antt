@@ -1,4 +1,4 @@
--- Laws of gate reading. Assumes nothing.
+-- Laws of gate reading.
 use mathlib.Core.Path.{_≡_, refl, sym, ap, _∙_}
 use mathlib.Core.List.{List, _++_}
 use Prim.Native.Nat.{ℕ, zero, suc, _+_, _-_, _*_, _/_, _%_, _≤_, _<_}
@@ -8,15 +8,15 @@ use borrow.Author.Tests.{lt-ltb, le-ltb, eq-eqb, ne-eqb, ltb-false, eqb-true, no
 use lib.ListN.{length, getD, drop}
 use lib.Seq.{sets, sets-eq}
 use Rattle.numbers.specs.Fields.{field}
-use Rattle.numbers.specs.Rows.{times, unpack}
+use Rattle.numbers.specs.Pieces.{times, unpack}
 use Rattle.packets.specs.Refusals.{lengthNotForCount, paddingSet, noRoom, refuse, orElse}
 use Rattle.packets.specs.Framing.{lengthOf, headRefusal}
 use Rattle.packets.specs.Gates.{gateType, distanceWidth, gateBytes, gateWidths, gateBits, sizeOf, gateRules, gateRefusal, refusedWith, acceptedWith}
 use Rattle.packets.specs.Reading.{countOf, gatesOf, fieldsRefusal, paddingOf, readRefusal, readAnswer, readInto}
 use Rattle.packets.specs.declared.gates.GatesAnswer.{GatesAnswer}
 use Rattle.numbers.proofs.FieldLaws.{field-add, field-lt}
-use Rattle.numbers.proofs.RowLaws.{length-unpack, length-times}
-use Rattle.packets.proofs.RefusalLaws.{orElse-first, orElse-then, orElse-stop, orElse-go, refuse-none, accepted, refused}
+use Rattle.numbers.proofs.PieceLaws.{length-unpack, length-times}
+use Rattle.packets.proofs.RefusalLaws.{orElse-first, orElse-then, orElse-stop, orElse-go, refuse-none, unless-none, unless-some}
 use Rattle.packets.proofs.FramingLaws.{Headed, headed}
 use Rattle.packets.proofs.GateLaws.{length-gate}
 
@@ -37,13 +37,19 @@ gate-rules-at distance s p h =
     )
 
 -- the two bytes of a distance are its high and its low one
-pub distance-high : (s : List ℕ) (p : ℕ) → getD (unpack s p (gateWidths distanceWidth)) 0 0 ≡ field s p distanceWidth / 256
-unfolding unpack gateWidths
-distance-high s p = omega (arith, field-add s p 7 8, field-lt s (p + 7) 8)
+module _ (distance : ℕ) (s : List ℕ) (p : ℕ) (h : 8 ≤ distance) where
+  distance-split : field s p distance ≡ field s p (distance - 8) * 256 + field s (p + (distance - 8)) 8
+  distance-split =
+      let e : distance ≡ distance - 8 + 8 = omega arith in
+      ap (field s p) e ∙ field-add s p (distance - 8) 8
 
-pub distance-low : (s : List ℕ) (p : ℕ) → getD (unpack s p (gateWidths distanceWidth)) 1 0 ≡ field s p distanceWidth % 256
-unfolding unpack gateWidths
-distance-low s p = omega (arith, field-add s p 7 8, field-lt s (p + 7) 8)
+  pub distance-high : getD (unpack s p (gateWidths distance)) 0 0 ≡ field s p distance / 256
+  unfolding unpack gateWidths
+  distance-high = omega (arith, distance-split, field-lt s (p + (distance - 8)) 8)
+
+  pub distance-low : getD (unpack s p (gateWidths distance)) 1 0 ≡ field s p distance % 256
+  unfolding unpack gateWidths
+  distance-low = omega (arith, distance-split, field-lt s (p + (distance - 8)) 8)
 
 -- ---- the walk over the gates, a turn at a time
 
@@ -135,7 +141,7 @@ module _ (s o : List ℕ) where
     unfolding readAnswer readInto
     read-refused ne =
         let h : readRefusal distanceWidth s (length o) ≡ 0 → ⊥ = λ z. ne (e ∙ z) in
-        (ap refusedWith e ∙ sym (refused _ _ _ h), sym (refused _ _ _ h))
+        (ap refusedWith e ∙ sym (unless-some _ _ _ h), sym (unless-some _ _ _ h))
 
     pub read-accepted : a ≡ 0 → (n bytes : ℕ) (after : List ℕ) → n ≡ countOf s → bytes ≡ lengthOf s
         → after ≡ sets o 0 (unpack s 16 (times n (gateWidths distanceWidth)))
@@ -149,6 +155,6 @@ module _ (s o : List ℕ) where
         let all : after ≡ gates ++ drop (gateBytes * countOf s) o =
         ea ∙ ap (λ (m : ℕ). sets o 0 (unpack s 16 (times m (gateWidths distanceWidth)))) en ∙ sets-eq gates o 0 (omega arith)
         ∙ ap (λ (m : ℕ). gates ++ drop m o) (zero-add (length gates) ∙ long) in
-        let told : _≡_ {A = GatesAnswer} (record { answer = a; gates = n; bytes = bytes }) (acceptedWith (countOf s) (lengthOf s)) =
+        let answer : _≡_ {A = GatesAnswer} (record { answer = a; gates = n; bytes = bytes }) (acceptedWith (countOf s) (lengthOf s)) =
         λ i. record { answer = z i; gates = en i; bytes = eb i } in
-        (told ∙ sym (accepted _ _ _ h), all ∙ sym (accepted _ _ _ h))
+        (answer ∙ sym (unless-none _ _ _ h), all ∙ sym (unless-none _ _ _ h))

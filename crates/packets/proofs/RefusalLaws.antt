@@ -1,4 +1,4 @@
--- What a chain of grounds tells. Assumes nothing.
+-- What a chain of grounds tells.
 use mathlib.Core.Path.{_≡_, refl}
 use mathlib.Core.Bool.{Bool, true, false}
 use Prim.Native.Nat.{ℕ, zero, suc}
@@ -34,12 +34,12 @@ refuse-none true n e = absurd (omega arith)
 refuse-none false n e = refl
 
 -- what an answer gives where there is no refusal, and where there is one
-pub accepted : {A : Type 0} (n : ℕ) (a b : A) → n ≡ 0 → unlessRefused n a b ≡ a
+pub unless-none : {A : Type 0} (n : ℕ) (a b : A) → n ≡ 0 → unlessRefused n a b ≡ a
 unfolding unlessRefused
-accepted zero a b e = refl
-accepted (suc n) a b e = absurd (omega arith)
+unless-none zero a b e = refl
+unless-none (suc n) a b e = absurd (omega arith)
 
-pub refused : {A : Type 0} (n : ℕ) (a b : A) → (n ≡ 0 → ⊥) → unlessRefused n a b ≡ b
+pub unless-some : {A : Type 0} (n : ℕ) (a b : A) → (n ≡ 0 → ⊥) → unlessRefused n a b ≡ b
 unfolding unlessRefused
-refused zero a b h = absurd (h refl)
-refused (suc n) a b h = refl
+unless-some zero a b h = absurd (h refl)
+unless-some (suc n) a b h = refl

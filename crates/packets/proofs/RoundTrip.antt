@@ -1,5 +1,5 @@
 -- One reading: writing what was read gives the sub-packet again, reading what was written gives the list again, and two accepted
--- sub-packets with the same gates are the same bytes. Assumes nothing.
+-- sub-packets with the same gates are the same bytes.
 use mathlib.Core.Path.{_≡_, refl, sym, ap, ap₂, _∙_, subst}
 use mathlib.Core.List.{List, [], _∷_, _++_}
 use Prim.Native.Nat.{ℕ, zero, suc, _+_, _-_, _*_, _/_, _%_, _^_, _≤_, _<_}
@@ -10,22 +10,22 @@ use lib.ListN.{length, getD, take, drop, length-append, length-drop, take-append
 use lib.Pow.{pow-pos}
 use lib.Seq.{drop-at, take-at, length-take-le}
 use Rattle.numbers.specs.Fields.{field}
-use Rattle.numbers.specs.Rows.{total, times, unpack, pack}
+use Rattle.numbers.specs.Pieces.{total, times, unpack, pack}
 use Rattle.packets.specs.Refusals.{refuse, orElse}
 use Rattle.packets.specs.Framing.{typeOf, lengthOf, headRefusal}
-use Rattle.packets.specs.Gates.{gateType, distanceWidth, mostGates, gateBytes, gateWidths, gateBits, bitsOf, sizeOf, paddingBits, gateRefusal}
-use Rattle.packets.specs.Reading.{countOf, gatesOf, fieldsRefusal, paddingOf, readRefusal}
-use Rattle.packets.specs.Writing.{gatesIn, packetWidths, packetValues, written, widthsRefusal, firstRefusal, listRefusal, writeRefusal}
+use Rattle.packets.specs.Gates.{gateType, distanceWidth, mostGates, gateBytes, gateWidths, gateBits, bitsOf, sizeOf, paddingBits, gateRefusal, acceptedWith}
+use Rattle.packets.specs.Reading.{countOf, gatesOf, fieldsRefusal, paddingOf, readRefusal, readAnswer, readInto}
+use Rattle.packets.specs.Writing.{gatesIn, packetWidths, packetValues, written, widthsRefusal, oneRefusal, listRefusal, writeRefusal, writeAnswer, writeInto}
 use Rattle.numbers.proofs.FieldLaws.{Bytes, field-lt}
-use Rattle.numbers.proofs.RowLaws.{Fit, none, one, unpack-append, unpack-pack, length-unpack, length-times, length-pack, times-suc, round-trip, pack-past}
-use Rattle.packets.proofs.RefusalLaws.{orElse-first, orElse-then, orElse-go, refuse-none}
+use Rattle.numbers.proofs.PieceLaws.{Fit, none, one, unpack-append, unpack-pack, length-unpack, length-times, length-pack, times-suc, round-trip, pack-past}
+use Rattle.packets.proofs.RefusalLaws.{orElse-first, orElse-then, orElse-go, refuse-none, unless-none}
 use Rattle.packets.proofs.GateLaws.{length-gate, total-gate, bits-gates}
 use Rattle.packets.proofs.ReadingLaws.{Gated, gated, length-gates, may-read}
 use Rattle.packets.proofs.WritingLaws.{Listed, listed, total-packet, may-write}
 
 -- ---- writing what was read
 
--- an accepted sub-packet is the row of its values
+-- an accepted sub-packet is its values, piece by piece
 values-read : (distance : ℕ) (s : List ℕ) (room : ℕ) → 8 ≤ distance → Gated distance s room
     → unpack s 0 (packetWidths distance (countOf s)) ≡ packetValues distance (countOf s) (gatesOf distance s)
 unfolding packetWidths packetValues gatesOf unpack
@@ -70,8 +70,8 @@ unfolding gateRefusal unpack gateWidths
 rules-read distance s p more = refl
 
 first-read : (distance : ℕ) (s : List ℕ) (p : ℕ) (more : List ℕ)
-    → firstRefusal distance (unpack s p (gateWidths distance) ++ more) ≡ gateRefusal (unpack s p (gateWidths distance))
-unfolding firstRefusal
+    → oneRefusal distance (unpack s p (gateWidths distance) ++ more) ≡ gateRefusal (unpack s p (gateWidths distance))
+unfolding oneRefusal
 first-read distance s p more = orElse-go _ _ (widths-read s p (gateWidths distance) more) ∙ rules-read distance s p more
 
 list-read : (distance : ℕ) (s : List ℕ) (p n : ℕ) → 8 ≤ distance
@@ -146,7 +146,7 @@ fit-widths (w ∷ ws) (x ∷ list) l e =
 -- the gates of a list that is not refused fit their fields
 fit-gates : (distance : ℕ) (list : List ℕ) (n : ℕ) → length list ≡ gateBytes * n → listRefusal distance list n ≡ 0
     → Fit (times n (gateWidths distance)) list
-unfolding listRefusal firstRefusal times
+unfolding listRefusal oneRefusal times
 fit-gates distance [] zero l e = none
 fit-gates distance (x ∷ list) zero l e = absurd (omega arith)
 fit-gates distance list (suc n) l e =
@@ -158,7 +158,7 @@ fit-gates distance list (suc n) l e =
     fit-gates distance (drop 9 list) n (length-drop 9 list ∙ omega arith) (orElse-then _ _ e) in
     subst (Fit (ws ++ times n ws)) (ap (λ (k : ℕ). take k list ++ drop 9 list) nine ∙ take-append-drop 9 list) (fit-append here rest)
 
--- a written sub-packet is the row of its values
+-- a written sub-packet is its values, piece by piece
 values-written : (d most : ℕ) → Sayable d most → (list o : List ℕ) → Listed d most list (length o)
     → unpack (written d list o) 0 (packetWidths d (gatesIn list)) ≡ packetValues d (gatesIn list) list
 unfolding written packetWidths packetValues
@@ -257,3 +257,42 @@ one-reading d s t room more h hs ht es et same =
     sym (write-read d s s room h hs hs es (g .head .whole))
     ∙ ap₂ (λ (n : ℕ) (list : List ℕ). take n (written d list s)) size same
     ∙ write-read d t s more h ht hs et (subst (λ (n : ℕ). n ≤ length s) size (g .head .whole))
+
+-- ---- of what the two functions leave
+
+-- the gates that an accepted read leaves at the start of its output
+pub read-list : (s o : List ℕ) → readRefusal distanceWidth s (length o) ≡ 0 → take (gateBytes * countOf s) (readInto s o) ≡ gatesOf distanceWidth s
+unfolding readInto
+read-list s o e =
+    ap (take (gateBytes * countOf s)) (unless-none _ _ _ e) ∙ take-at (gatesOf distanceWidth s) _ (gateBytes * countOf s) (length-gates distanceWidth s)
+
+-- THERE AND BACK: those bytes, written, are accepted with the same gates and bytes, and give the sub-packet again
+pub there-and-back : (s o out : List ℕ) → Bytes s → Bytes out → readRefusal distanceWidth s (length o) ≡ 0 → lengthOf s ≤ length out
+    → (writeAnswer (take (gateBytes * countOf s) (readInto s o)) out ≡ readAnswer s o)
+    × (take (lengthOf s) (writeInto (take (gateBytes * countOf s) (readInto s o)) out) ≡ take (lengthOf s) s)
+unfolding writeAnswer writeInto readAnswer
+there-and-back s o out hs ho e fits =
+    let d : ℕ = distanceWidth in
+    let list : List ℕ = gatesOf d s in
+    let w : writeRefusal d mostGates list (length out) ≡ 0 = write-accepts d mostGates sayable full s (length o) (length out) e fits in
+    let n : gatesIn list ≡ countOf s = count-gates d s in
+    let size : sizeOf d (gatesIn list) ≡ lengthOf s = ap (sizeOf d) n ∙ sym (gated d s (length o) e .length-right) in
+    rw (read-list s o e) (
+      unless-none _ _ _ w ∙ ap₂ acceptedWith n size ∙ sym (unless-none _ _ _ e),
+      ap (take (lengthOf s)) (unless-none _ _ _ w) ∙ write-read d s out (length o) (sayable .wide) hs ho e fits,
+    )
+
+-- AND BACK AND THERE: a sub-packet that was written, read, is accepted with the same gates and bytes, and gives the list again
+pub back-and-there : (list o out : List ℕ) → writeRefusal distanceWidth mostGates list (length o) ≡ 0 → length list ≤ length out
+    → (readAnswer (writeInto list o) out ≡ writeAnswer list o) × (take (length list) (readInto (writeInto list o) out) ≡ list)
+unfolding writeAnswer writeInto readAnswer
+back-and-there list o out e fits =
+    let d : ℕ = distanceWidth in
+    let s : List ℕ = written d list o in
+    let w = wrote d mostGates sayable list o e in
+    let r : readRefusal d s (length out) ≡ 0 = read-accepts d mostGates sayable list o (length out) e fits in
+    let long : length list ≡ gateBytes * countOf s = sym (ap length (w .gates)) ∙ length-gates d s in
+    rw (unless-none (writeRefusal d mostGates list (length o)) s o e) (
+      unless-none _ _ _ r ∙ ap₂ acceptedWith (w .counted) (w .sized) ∙ sym (unless-none _ _ _ e),
+      ap (λ (n : ℕ). take n (readInto s out)) long ∙ read-list s out r ∙ w .gates,
+    )

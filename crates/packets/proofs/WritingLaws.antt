@@ -1,4 +1,4 @@
--- Laws of gate writing. Assumes nothing.
+-- Laws of gate writing.
 use mathlib.Core.Path.{_≡_, refl, sym, ap, ap₂, _∙_}
 use mathlib.Core.List.{List, [], _∷_, _++_}
 use Prim.Native.Nat.{ℕ, zero, suc, _+_, _-_, _*_, _/_, _%_, _^_, _≤_, _<_}
@@ -9,16 +9,16 @@ use borrow.Author.Tests.{le-ltb, lt-ltb, lt-leb, le-leb, ltb-false}
 use lib.ListN.{length, getD, drop}
 use lib.Seq.{drop-at, drop-cons, drop-drop, getD-drop}
 use Rattle.numbers.specs.Fields.{put}
-use Rattle.numbers.specs.Rows.{total, times, pack}
+use Rattle.numbers.specs.Pieces.{total, times, pack}
 use Rattle.numbers.specs.Numbers.{numberAt}
 use Rattle.packets.specs.Refusals.{notWholeGates, tooManyGates, tooWide, noRoom, refuse, orElse}
 use Rattle.packets.specs.Gates.{gateType, distanceWidth, mostGates, gateBytes, gateWidths, bitsOf, sizeOf, paddingBits, gateRules, gateRefusal, refusedWith, acceptedWith}
-use Rattle.packets.specs.Writing.{gatesIn, packetWidths, packetValues, written, widthsRefusal, firstRefusal, listRefusal, writeRefusal, writeAnswer, writeInto}
+use Rattle.packets.specs.Writing.{gatesIn, packetWidths, packetValues, written, widthsRefusal, oneRefusal, listRefusal, writeRefusal, writeAnswer, writeInto}
 use Rattle.packets.specs.declared.gates.GatesAnswer.{GatesAnswer}
 use Rattle.numbers.proofs.FieldLaws.{Bytes}
 use Rattle.numbers.proofs.NumberLaws.{number-byte, number-pair}
-use Rattle.numbers.proofs.RowLaws.{total-append, length-times, pack-append, pack-extra}
-use Rattle.packets.proofs.RefusalLaws.{orElse-first, orElse-then, orElse-stop, orElse-go, refuse-none, accepted, refused}
+use Rattle.numbers.proofs.PieceLaws.{total-append, length-times, pack-append, pack-extra}
+use Rattle.packets.proofs.RefusalLaws.{orElse-first, orElse-then, orElse-stop, orElse-go, refuse-none, unless-none, unless-some}
 use Rattle.packets.proofs.GateLaws.{length-gate, bits-gates}
 
 -- a whole sub-packet takes whole bytes
@@ -62,17 +62,17 @@ unfolding listRefusal
 list-none distance list = refl
 
 list-more : (distance : ℕ) (list : List ℕ) (i m : ℕ) → 0 < m
-    → orElse (firstRefusal distance (drop i list)) (listRefusal distance (drop (i + 9) list) (m - 1)) ≡ listRefusal distance (drop i list) m
+    → orElse (oneRefusal distance (drop i list)) (listRefusal distance (drop (i + 9) list) (m - 1)) ≡ listRefusal distance (drop i list) m
 unfolding listRefusal
 list-more distance list i m h =
     let e : suc (m - 1) ≡ m = omega arith in
-    ap (λ (l : List ℕ). orElse (firstRefusal distance (drop i list)) (listRefusal distance l (m - 1))) (sym (drop-drop 9 i list))
+    ap (λ (l : List ℕ). orElse (oneRefusal distance (drop i list)) (listRefusal distance l (m - 1))) (sym (drop-drop 9 i list))
     ∙ ap (listRefusal distance (drop i list)) e
 
-pub list-stop : (distance : ℕ) (list : List ℕ) (i m a : ℕ) → 0 < m → a ≡ firstRefusal distance (drop i list) → (a ≡ 0 → ⊥) → a ≡ listRefusal distance (drop i list) m
+pub list-stop : (distance : ℕ) (list : List ℕ) (i m a : ℕ) → 0 < m → a ≡ oneRefusal distance (drop i list) → (a ≡ 0 → ⊥) → a ≡ listRefusal distance (drop i list) m
 list-stop distance list i m a h e ne = e ∙ orElse-stop _ _ (λ z. ne (e ∙ z)) ∙ list-more distance list i m h
 
-pub list-go : (distance : ℕ) (list : List ℕ) (i m a : ℕ) → 0 < m → a ≡ firstRefusal distance (drop i list) → a ≡ 0
+pub list-go : (distance : ℕ) (list : List ℕ) (i m a : ℕ) → 0 < m → a ≡ oneRefusal distance (drop i list) → a ≡ 0
     → listRefusal distance (drop (i + 9) list) (m - 1) ≡ listRefusal distance (drop i list) m
 list-go distance list i m a h e z = sym (orElse-go _ _ (sym e ∙ z)) ∙ list-more distance list i m h
 
@@ -153,13 +153,13 @@ module _ (list o : List ℕ) (a : ℕ) (e : a ≡ writeRefusal distanceWidth mos
   unfolding writeAnswer writeInto
   write-refused ne =
       let h : writeRefusal distanceWidth mostGates list (length o) ≡ 0 → ⊥ = λ z. ne (e ∙ z) in
-      (ap refusedWith e ∙ sym (refused _ _ _ h), sym (refused _ _ _ h))
+      (ap refusedWith e ∙ sym (unless-some _ _ _ h), sym (unless-some _ _ _ h))
 
   pub write-accepted : a ≡ 0 → (bytes : ℕ) (after : List ℕ) → bytes ≡ sizeOf distanceWidth (gatesIn list) → after ≡ written distanceWidth list o
       → (_≡_ {A = GatesAnswer} (record { answer = a; gates = gatesIn list; bytes = bytes }) (writeAnswer list o)) × (after ≡ writeInto list o)
   unfolding writeAnswer writeInto
   write-accepted z bytes after eb ea =
       let h : writeRefusal distanceWidth mostGates list (length o) ≡ 0 = sym e ∙ z in
-      let told : _≡_ {A = GatesAnswer} (record { answer = a; gates = gatesIn list; bytes = bytes }) (acceptedWith (gatesIn list) (sizeOf distanceWidth (gatesIn list))) =
+      let answer : _≡_ {A = GatesAnswer} (record { answer = a; gates = gatesIn list; bytes = bytes }) (acceptedWith (gatesIn list) (sizeOf distanceWidth (gatesIn list))) =
       λ i. record { answer = z i; gates = gatesIn list; bytes = eb i } in
-      (told ∙ sym (accepted _ _ _ h), ea ∙ sym (accepted _ _ _ h))
+      (answer ∙ sym (unless-none _ _ _ h), ea ∙ sym (unless-none _ _ _ h))

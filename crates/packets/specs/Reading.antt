@@ -5,7 +5,7 @@ use mathlib.Core.Bool.{not}
 use lib.ListN.{length, drop}
 use lib.Dec.{ltb, eqb}
 use Rattle.numbers.specs.Fields.{field}
-use Rattle.numbers.specs.Rows.{times, unpack}
+use Rattle.numbers.specs.Pieces.{times, unpack}
 use Rattle.packets.specs.Refusals.{lengthNotForCount, paddingSet, noRoom, refuse, orElse, unlessRefused}
 use Rattle.packets.specs.Framing.{lengthOf, headRefusal}
 use Rattle.packets.specs.Gates.{gateType, distanceWidth, gateBytes, gateWidths, gateBits, bitsOf, sizeOf, paddingBits, gateRefusal, refusedWith, acceptedWith}

@@ -3,7 +3,7 @@ use Prim.Native.Nat.{ℕ, zero, suc, _/_, _%_, _^_}
 use mathlib.Core.List.{List, [], _∷_, _++_}
 use lib.ListN.{length, getD, drop}
 use lib.Dec.{ltb, leb}
-use Rattle.numbers.specs.Rows.{times, pack}
+use Rattle.numbers.specs.Pieces.{times, pack}
 use Rattle.packets.specs.Refusals.{notWholeGates, tooManyGates, tooWide, noRoom, refuse, orElse, unlessRefused}
 use Rattle.packets.specs.Gates.{gateType, distanceWidth, mostGates, gateBytes, gateWidths, sizeOf, paddingBits, gateRefusal, refusedWith, acceptedWith}
 use Rattle.packets.specs.declared.gates.GatesAnswer.{GatesAnswer}
@@ -30,13 +30,13 @@ widthsRefusal [] gate = 0
 widthsRefusal (w ∷ ws) gate = orElse (refuse (leb (2 ^ w) (getD gate 0 0)) tooWide) (widthsRefusal ws (drop 1 gate))
 
 -- the rules on the first gate of a list
-unfoldable pub firstRefusal : ℕ → List ℕ → ℕ
-firstRefusal distance list = orElse (widthsRefusal (gateWidths distance) list) (gateRefusal list)
+unfoldable pub oneRefusal : ℕ → List ℕ → ℕ
+oneRefusal distance list = orElse (widthsRefusal (gateWidths distance) list) (gateRefusal list)
 
 -- and on each of the first n
 unfoldable pub listRefusal : ℕ → List ℕ → ℕ → ℕ
 listRefusal distance list zero = 0
-listRefusal distance list (suc n) = orElse (firstRefusal distance list) (listRefusal distance (drop gateBytes list) n)
+listRefusal distance list (suc n) = orElse (oneRefusal distance list) (listRefusal distance (drop gateBytes list) n)
 
 -- the rules of a gate write in their order, at most `most` gates into room bytes
 unfoldable pub writeRefusal : ℕ → ℕ → List ℕ → ℕ → ℕ

@@ -46,7 +46,7 @@ pub fn frame_refusal(s: &[u8]) -> u32
 
 // The first sub-packet of `s`, header included; nothing on a refusal.
 pub fn frame(s: &[u8]) -> &[u8]
-    ensures { λ r. ⌜ now r ≡ frameOf (now (s .entry)) ⌝ }
+    ensures { λ r. ⌜ (now r ≡ frameOf (now (s .entry))) × (r .ptr ≡ s .entry .ptr) ⌝ }
 {
     if frame_refusal(s) == refusals::NONE {
         let n = length_of(s);

@@ -1,4 +1,4 @@
--- `packets::bit_at` meets its contract. Assumes nothing.
+-- `packets::bit_at` meets its contract.
 use Prim.Native.Nat.{ℕ, _-_, _/_, _%_, _^_}
 use mathlib.Core.Path.{ap, _∙_}
 use native.Mathlib.Omega.{arith}

@@ -1,4 +1,4 @@
--- `packets::put_bit` meets its contract. Assumes nothing.
+-- `packets::put_bit` meets its contract.
 use borrow.Author.Needs.{needs}
 use native.Mathlib.Omega.{arith}
 use Prim.Native.Nat.{ℕ, _/_}

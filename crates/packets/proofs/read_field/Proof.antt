@@ -1,4 +1,4 @@
--- `packets::read_field` meets its contract. The invariant: `v` is the field of the first `i` bits. Assumes nothing.
+-- `packets::read_field` meets its contract. The invariant: `v` is the field of the first `i` bits.
 use Prim.Native.Nat.{_≤_, _<_, _-_, _+_, _^_}
 use mathlib.Core.Path.{_≡_, refl, sym, _∙_, ap}
 use borrow.Author.Needs.{needs}

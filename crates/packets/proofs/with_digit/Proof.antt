@@ -1,4 +1,4 @@
--- `packets::with_digit` meets its contract: no step of the sum passes what the whole byte holds. Assumes nothing.
+-- `packets::with_digit` meets its contract: no step of the sum passes what the whole byte holds.
 use borrow.Author.Needs.{needs}
 use native.Mathlib.Omega.{arith}
 use Prim.Native.Nat.{ℕ, _+_, _*_, _/_, _%_, _^_, _≤_, _<_}

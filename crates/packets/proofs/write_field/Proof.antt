@@ -1,4 +1,4 @@
--- `packets::write_field` meets its contract. The invariant: what is left to write, written, is the whole write. Assumes nothing.
+-- `packets::write_field` meets its contract. The invariant: what is left to write, written, is the whole write.
 use Prim.Native.Nat.{ℕ, _≤_, _<_, _-_, _+_, _/_, _%_}
 use mathlib.Core.List.{List}
 use mathlib.Core.Path.{_≡_, refl, sym, _∙_, ap}

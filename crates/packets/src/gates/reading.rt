@@ -6,7 +6,7 @@ ghost use mathlib.Core.Path.{_≡_};
 ghost use Prim.Native.Nat.{_+_, _*_, _≤_};
 ghost use lib.ListN.{length};
 ghost use lib.Seq.{sets};
-ghost use Rattle.numbers.specs.Rows.{times, unpack};
+ghost use Rattle.numbers.specs.Pieces.{times, unpack};
 ghost use Rattle.packets.specs.Gates.{gateWidths, gateRefusal};
 ghost use Rattle.packets.specs.Reading.{countOf, fieldsRefusal, readRefusal, readAnswer, readInto};
 

@@ -4,9 +4,9 @@ use crate::refusals;
 ghost use mathlib.Core.Path.{_≡_};
 ghost use Prim.Native.Nat.{_+_, _*_, _≤_};
 ghost use lib.ListN.{length, drop};
-ghost use Rattle.numbers.specs.Rows.{times, pack};
+ghost use Rattle.numbers.specs.Pieces.{times, pack};
 ghost use Rattle.packets.specs.Gates.{gateWidths, sizeOf};
-ghost use Rattle.packets.specs.Writing.{written, widthsRefusal, firstRefusal, listRefusal, writeRefusal, writeAnswer, writeInto};
+ghost use Rattle.packets.specs.Writing.{written, widthsRefusal, oneRefusal, listRefusal, writeRefusal, writeAnswer, writeInto};
 
 const MOST_GATES: usize = 28;
 
@@ -27,9 +27,9 @@ fn widths_refusal(list: &[u8], at: usize, distance: usize) -> u32
 }
 
 // The refusal that the gate at index `at` gets.
-fn first_refusal(list: &[u8], at: usize, distance: usize) -> u32
+fn one_refusal(list: &[u8], at: usize, distance: usize) -> u32
     requires { ⌜ (8 ≤ distance) × (distance ≤ 15) × (at + 9 ≤ length (now list)) ⌝ }
-    ensures { λ r. ⌜ r ≡ firstRefusal distance (drop at (now (list .entry))) ⌝ }
+    ensures { λ r. ⌜ r ≡ oneRefusal distance (drop at (now (list .entry))) ⌝ }
 {
     let widths = widths_refusal(list, at, distance);
     if widths != refusals::NONE {
@@ -50,7 +50,7 @@ fn list_refusal(list: &[u8], distance: usize, n: usize) -> u32
     let mut at = 0;
     let mut i = 0;
     while i < n {
-        let refusal = first_refusal(list, at, distance);
+        let refusal = one_refusal(list, at, distance);
         if refusal != refusals::NONE {
             return refusal;
         }

@@ -1,11 +1,11 @@
--- `packets::framing::frame` meets its contract: an accepted header says that the length is there. Assumes nothing.
+-- `packets::framing::frame` meets its contract: an accepted header says that the length is there.
 use Prim.Native.Nat.{ℕ}
-use mathlib.Core.Path.{_≡_, sym, ap, _∙_}
+use mathlib.Core.Path.{_≡_, refl, sym, ap, _∙_}
 use native.Mathlib.Omega.{arith}
 use lib.ListN.{take}
 use lib.Seq.{length-take-le}
 use Rattle.packets.specs.Framing.{lastType, lengthOf, frameRefusal}
-use Rattle.packets.proofs.RefusalLaws.{accepted, refused}
+use Rattle.packets.proofs.RefusalLaws.{unless-none, unless-some}
 use Rattle.packets.proofs.FramingLaws.{headed}
 use borrow.Author.Needs.{needs}
 use Rattle.packets.proofs.framing.frame.Statement.{statement}
@@ -19,12 +19,12 @@ slice-aggregate-result c = let s = c .before .before .before .before .before .ar
 returns : tie.Need-returns
 returns c = let s = c .before .before .before .before .before .args .s .now in
     let e : frameRefusal s ≡ 0 = sym (c .before .before .before .frame-refusal .ensures) ∙ c .before .before .if1 .taken in
-    ap (λ (n : ℕ). take n s) (c .before .length-of .ensures .0 ∙ sym (accepted (frameRefusal s) (lengthOf s) 0 e))
+    (ap (λ (n : ℕ). take n s) (c .before .length-of .ensures .0 ∙ sym (unless-none (frameRefusal s) (lengthOf s) 0 e)), refl)
 
 returns-2 : tie.Need-returns-2
 returns-2 c = let s = c .before .before .before .before .args .s .now in
     let h : frameRefusal s ≡ 0 → ⊥ = λ e. c .before .if1 .left (c .before .before .frame-refusal .ensures ∙ e) in
-    ap (λ (n : ℕ). take n s) (sym (refused (frameRefusal s) (lengthOf s) 0 h))
+    (ap (λ (n : ℕ). take n s) (sym (unless-some (frameRefusal s) (lengthOf s) 0 h)), refl)
 
 pub frame-spec : {M : Type 1} → statement M
 frame-spec =

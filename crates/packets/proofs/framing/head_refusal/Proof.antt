@@ -1,4 +1,4 @@
--- `packets::framing::head_refusal` meets its contract: at each `return` the tests that led there pick the ground. Assumes nothing.
+-- `packets::framing::head_refusal` meets its contract: at each `return` the tests that led there pick the ground.
 use lib.ListN.{length}
 use native.Mathlib.Omega.{arith}
 use borrow.Author.Tests.{lt-ltb, le-ltb}

@@ -1,4 +1,4 @@
--- `packets::gates::bits_of` meets its contract. Assumes nothing.
+-- `packets::gates::bits_of` meets its contract.
 use Prim.Native.Nat.{_≤_, _*_}
 use mathlib.Core.Path.{refl}
 use native.Mathlib.Omega.{arith}

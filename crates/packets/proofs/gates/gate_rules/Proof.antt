@@ -1,4 +1,4 @@
--- `packets::gates::gate_rules` meets its contract: at each `return` the tests that led there pick the ground. Assumes nothing.
+-- `packets::gates::gate_rules` meets its contract: at each `return` the tests that led there pick the ground.
 use native.Mathlib.Omega.{arith}
 use borrow.Author.Tests.{lt-ltb, le-ltb}
 use Rattle.packets.specs.Refusals.{refuse, orElse}

@@ -1,4 +1,4 @@
--- `packets::gates::piece_width` meets its contract: behind the first piece the table has the widths. Assumes nothing.
+-- `packets::gates::piece_width` meets its contract: behind the first piece the table has the widths.
 use mathlib.Core.Path.{_≡_}
 use mathlib.Core.List.{[], _∷_}
 use Prim.Native.Nat.{_-_}

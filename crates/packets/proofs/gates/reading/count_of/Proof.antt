@@ -1,4 +1,4 @@
--- `packets::gates::reading::count_of` meets its contract. Assumes nothing.
+-- `packets::gates::reading::count_of` meets its contract.
 use native.Mathlib.Omega.{arith}
 use Rattle.numbers.proofs.FieldLaws.{field-lt}
 use borrow.Author.Needs.{needs}

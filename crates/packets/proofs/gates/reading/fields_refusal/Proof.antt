@@ -1,4 +1,4 @@
--- `packets::gates::reading::fields_refusal` meets its contract. The invariant: the refusal of the gates left is that of all. Assumes nothing.
+-- `packets::gates::reading::fields_refusal` meets its contract. The invariant: the refusal of the gates left is that of all.
 use Prim.Native.Nat.{ℕ, _+_, _-_, _*_, _/_, _≤_, _<_}
 use mathlib.Core.Path.{_≡_, sym, ap, _∙_}
 use native.Mathlib.Omega.{arith}

@@ -1,4 +1,4 @@
--- `packets::gates::reading::fill_gate` meets its contract. The invariant: what is left to store, stored, is the whole row. Assumes nothing.
+-- `packets::gates::reading::fill_gate` meets its contract. The invariant: what is left to store, stored, is the whole gate.
 use Prim.Native.Nat.{ℕ, _+_, _-_, _*_, _≤_, _<_}
 use mathlib.Core.Path.{_≡_, refl, sym, ap, _∙_}
 use mathlib.Core.List.{List, []}
@@ -7,9 +7,9 @@ use native.Mathlib.Omega.{arith}
 use lib.ListN.{length, set, drop, length-set}
 use lib.Seq.{sets}
 use Rattle.numbers.specs.Fields.{field}
-use Rattle.numbers.specs.Rows.{unpack}
+use Rattle.numbers.specs.Pieces.{unpack}
 use Rattle.packets.specs.Gates.{gateWidths}
-use Rattle.numbers.proofs.RowLaws.{fill-step, unpack-nil}
+use Rattle.numbers.proofs.PieceLaws.{fill-step, unpack-nil}
 use Rattle.packets.proofs.GateLaws.{length-gate, piece-byte}
 use borrow.Author.Needs.{needs}
 use Rattle.packets.proofs.gates.reading.fill_gate.Statement.{statement}

@@ -1,13 +1,13 @@
--- `packets::gates::reading::fill_gates` meets its contract. The invariant: what is left to store, stored, is all the gates. Assumes nothing.
+-- `packets::gates::reading::fill_gates` meets its contract. The invariant: what is left to store, stored, is all the gates.
 use Prim.Native.Nat.{ℕ, _+_, _-_, _*_, _≤_, _<_}
 use mathlib.Core.Path.{_≡_, refl, ap, _∙_}
 use mathlib.Core.List.{List}
 use native.Mathlib.Omega.{arith}
 use lib.ListN.{length}
 use lib.Seq.{sets}
-use Rattle.numbers.specs.Rows.{times, unpack}
+use Rattle.numbers.specs.Pieces.{times, unpack}
 use Rattle.packets.specs.Gates.{gateWidths, gateBits}
-use Rattle.numbers.proofs.RowLaws.{fill-row}
+use Rattle.numbers.proofs.PieceLaws.{fill-times}
 use Rattle.packets.proofs.GateLaws.{length-gate, total-gate}
 use borrow.Author.Needs.{needs}
 use Rattle.packets.proofs.gates.reading.fill_gates.Statement.{statement}
@@ -38,7 +38,7 @@ loop-again c = let called = c .before .before .before .fill-gate in
       omega arith,
       called .kept .1 .1 .1 .0 ∙ l .inv .3,
       rw (less, called .ensures, c .gate-bits .ensures .0)
-          (fill-row (l .out) (a .s .now) (l .at) (l .p) (gateWidths (a .distance)) (a .n - l .i) 9 (gateBits (a .distance)) (omega arith) (length-gate (a .distance)) (total-gate (a .distance) (omega arith)))
+          (fill-times (l .out) (a .s .now) (l .at) (l .p) (gateWidths (a .distance)) (a .n - l .i) 9 (gateBits (a .distance)) (omega arith) (length-gate (a .distance)) (total-gate (a .distance) (omega arith)))
           ∙ l .inv .4,
     )
 

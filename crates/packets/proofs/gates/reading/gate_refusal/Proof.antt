@@ -1,4 +1,4 @@
--- `packets::gates::reading::gate_refusal` meets its contract: a number's two pieces are one field. Assumes nothing.
+-- `packets::gates::reading::gate_refusal` meets its contract: a number's two pieces are one field.
 use mathlib.Core.Path.{sym, _∙_}
 use native.Mathlib.Omega.{arith}
 use Rattle.packets.proofs.ReadingLaws.{gate-rules-at}

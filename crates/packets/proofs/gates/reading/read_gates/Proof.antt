@@ -1,4 +1,4 @@
--- `packets::gates::reading::read_gates` meets its contract: everything is judged first, and stored afterwards. Assumes nothing.
+-- `packets::gates::reading::read_gates` meets its contract: everything is judged first, and stored afterwards.
 use mathlib.Core.Path.{sym, _∙_}
 use lib.ListN.{length}
 use native.Mathlib.Omega.{arith}
@@ -19,8 +19,8 @@ fill-gates-requires c κs = let a = c .before .before .before .before .before .b
 
 returns-2 : tie.Need-returns-2
 returns-2 c = let a = c .before .before .before .before .before .before .before .before .before .before .args in
-    let judged = c .before .before .before .before .before .before .before .read-refusal in
-    read-accepted (a .s .now) (a .out .now) (judged .result) (judged .ensures) (c .before .before .before .before .before .before .if1 .left) (c .before .before .before .before .before .count-of .result) (c .before .before .before .before .length-of .result) (c .before .before .fill-gates .last .1 .1 .1 .0)
+    let refusal = c .before .before .before .before .before .before .before .read-refusal in
+    read-accepted (a .s .now) (a .out .now) (refusal .result) (refusal .ensures) (c .before .before .before .before .before .before .if1 .left) (c .before .before .before .before .before .count-of .result) (c .before .before .before .before .length-of .result) (c .before .before .fill-gates .last .1 .1 .1 .0)
     (c .before .before .before .before .before .count-of .ensures .0) (c .before .before .before .before .length-of .ensures .0) (c .before .before .fill-gates .ensures)
 
 pub read-gates-spec : {M : Type 1} → statement M

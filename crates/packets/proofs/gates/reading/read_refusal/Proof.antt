@@ -1,4 +1,4 @@
--- `packets::gates::reading::read_refusal` meets its contract: what each place of the code has learnt, and then the law for each way out. Assumes nothing.
+-- `packets::gates::reading::read_refusal` meets its contract: what the code has learnt at each step, and then the law for each way out.
 use Prim.Native.Nat.{ℕ, _+_, _-_, _*_, _/_}
 use mathlib.Core.Path.{_≡_, sym, ap, _∙_}
 use native.Mathlib.Omega.{arith}
@@ -11,7 +11,7 @@ use borrow.Author.Needs.{needs}
 use Rattle.packets.proofs.gates.reading.read_refusal.Statement.{statement}
 use Rattle.packets.proofs.gates.reading.read_refusal.Tie as tie
 
--- what is known at each place of the code
+-- what is known at each step of the code
 head-zero : (c : tie.Else1) → headRefusal (c .before .before .before .args .s .now) gateType gateType ≡ 0
 head-zero c = sym (c .before .head-refusal .ensures) ∙ c .if1 .left
 

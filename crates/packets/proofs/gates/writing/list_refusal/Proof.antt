@@ -1,4 +1,4 @@
--- `packets::gates::writing::list_refusal` meets its contract. The invariant: the refusal of the gates left is that of all. Assumes nothing.
+-- `packets::gates::writing::list_refusal` meets its contract. The invariant: the refusal of the gates left is that of all.
 use Prim.Native.Nat.{ℕ, _+_, _-_, _*_, _≤_, _<_}
 use mathlib.Core.Path.{_≡_, sym, ap, _∙_}
 use native.Mathlib.Omega.{arith}
@@ -23,13 +23,13 @@ loop-holds c = let a = c .before .args in
 returns : tie.Need-returns Inv-loop μ-loop
 returns c = let l = c .before .before .before .loop in
     let a = c .before .before .before .before .before .args in
-    let called = c .before .first-refusal in
+    let called = c .before .one-refusal in
     list-stop (a .distance) (a .list .now) (l .at) (a .n - l .i) (called .result) (omega arith) (called .ensures) (c .if1 .taken) ∙ l .inv .2
 
 loop-again : tie.Need-loop-again Inv-loop μ-loop
 loop-again c = let l = c .before .before .before .loop in
     let a = c .before .before .before .before .before .args in
-    let called = c .before .first-refusal in
+    let called = c .before .one-refusal in
     let less : a .n - (l .i + 1) ≡ a .n - l .i - 1 = omega arith in (
       omega arith,
       omega arith,

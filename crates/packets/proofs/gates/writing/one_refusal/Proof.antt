@@ -1,27 +1,27 @@
--- `packets::gates::writing::first_refusal` meets its contract. Assumes nothing.
+-- `packets::gates::writing::one_refusal` meets its contract.
 use Prim.Native.Nat.{ℕ, _+_, _-_, _*_, _≤_, _<_}
 use mathlib.Core.Path.{_≡_, sym, _∙_}
 use mathlib.Core.List.{List}
 use native.Mathlib.Omega.{arith}
 use lib.ListN.{drop}
 use Rattle.packets.specs.Gates.{gateWidths}
-use Rattle.packets.specs.Writing.{widthsRefusal, firstRefusal}
+use Rattle.packets.specs.Writing.{widthsRefusal, oneRefusal}
 use Rattle.packets.proofs.RefusalLaws.{orElse-stop, orElse-go}
 use Rattle.packets.proofs.WritingLaws.{rules-at}
 use borrow.Author.Needs.{needs}
-use Rattle.packets.proofs.gates.writing.first_refusal.Statement.{statement}
-use Rattle.packets.proofs.gates.writing.first_refusal.Tie as tie
+use Rattle.packets.proofs.gates.writing.one_refusal.Statement.{statement}
+use Rattle.packets.proofs.gates.writing.one_refusal.Tie as tie
 
 returns : tie.Need-returns
-unfolding firstRefusal
+unfolding oneRefusal
 returns c = let called = c .before .widths-refusal in
     called .ensures ∙ orElse-stop _ _ (λ z. c .if1 .taken (called .ensures ∙ z))
 
 returns-2 : tie.Need-returns-2
-unfolding firstRefusal
-returns-2 c = let judged = c .before .before .before .before .before .before in
-    let a = judged .before .before .args in
-    let none : widthsRefusal (gateWidths (a .distance)) (drop (a .at) (a .list .now)) ≡ 0 = sym (judged .widths-refusal .ensures) ∙ c .before .before .before .before .before .if1 .left in
+unfolding oneRefusal
+returns-2 c = let widths = c .before .before .before .before .before .before in
+    let a = widths .before .before .args in
+    let none : widthsRefusal (gateWidths (a .distance)) (drop (a .at) (a .list .now)) ≡ 0 = sym (widths .widths-refusal .ensures) ∙ c .before .before .before .before .before .if1 .left in
     c .gate-rules .ensures
     ∙ rw (
       c .before .before .before .before .half-at .ensures,
@@ -29,10 +29,10 @@ returns-2 c = let judged = c .before .before .before .before .before .before in
       c .before .before .byte-at2 .ensures,
       c .before .byte-at3 .ensures,
     )
-    (sym (orElse-go _ _ none ∙ rules-at (a .list .now) (a .at) (λ i. omega (arith, judged .before .shared-slice-known .given i))))
+    (sym (orElse-go _ _ none ∙ rules-at (a .list .now) (a .at) (λ i. omega (arith, widths .before .shared-slice-known .given i))))
 
-pub first-refusal-spec : {M : Type 1} → statement M
-first-refusal-spec =
+pub one-refusal-spec : {M : Type 1} → statement M
+one-refusal-spec =
     tie.close
     (tie.spec
     (λ c κs. search needs) returns (λ c. search needs) (λ c κs. search needs) (λ c. search needs) (λ c κs. search needs)

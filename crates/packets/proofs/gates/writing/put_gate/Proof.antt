@@ -1,4 +1,4 @@
--- `packets::gates::writing::put_gate` meets its contract. The invariant: what is left to write, written, is the whole row. Assumes nothing.
+-- `packets::gates::writing::put_gate` meets its contract. The invariant: what is left to write, written, is the whole gate.
 use Prim.Native.Nat.{ℕ, _+_, _-_, _*_, _≤_, _<_}
 use mathlib.Core.Path.{_≡_, refl, sym, ap, _∙_}
 use mathlib.Core.List.{List}
@@ -6,10 +6,10 @@ use native.Mathlib.Nat.{add-zero, add-assoc}
 use native.Mathlib.Omega.{arith}
 use lib.ListN.{length, getD, drop}
 use Rattle.numbers.specs.Fields.{put}
-use Rattle.numbers.specs.Rows.{pack}
+use Rattle.numbers.specs.Pieces.{pack}
 use Rattle.packets.specs.Gates.{gateWidths}
 use Rattle.numbers.proofs.NumberLaws.{number-byte}
-use Rattle.numbers.proofs.RowLaws.{put-step, pack-zero}
+use Rattle.numbers.proofs.PieceLaws.{put-step, pack-zero}
 use Rattle.packets.proofs.GateLaws.{length-gate}
 use borrow.Author.Needs.{needs}
 use Rattle.packets.proofs.gates.writing.put_gate.Statement.{statement}

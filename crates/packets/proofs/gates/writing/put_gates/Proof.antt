@@ -1,12 +1,12 @@
--- `packets::gates::writing::put_gates` meets its contract. The invariant: what is left to write, written, is all the gates. Assumes nothing.
+-- `packets::gates::writing::put_gates` meets its contract. The invariant: what is left to write, written, is all the gates.
 use Prim.Native.Nat.{ℕ, _+_, _-_, _*_, _≤_, _<_}
 use mathlib.Core.Path.{_≡_, refl, sym, ap, _∙_}
 use mathlib.Core.List.{List}
 use native.Mathlib.Omega.{arith}
 use lib.ListN.{length, drop}
-use Rattle.numbers.specs.Rows.{times, pack}
+use Rattle.numbers.specs.Pieces.{times, pack}
 use Rattle.packets.specs.Gates.{gateWidths, gateBits}
-use Rattle.numbers.proofs.RowLaws.{put-row, pack-zero}
+use Rattle.numbers.proofs.PieceLaws.{put-times, pack-zero}
 use Rattle.packets.proofs.GateLaws.{length-gate, total-gate}
 use borrow.Author.Needs.{needs}
 use Rattle.packets.proofs.gates.writing.put_gates.Statement.{statement}
@@ -37,7 +37,7 @@ loop-again c = let called = c .before .before .before .put-gate in
       omega arith,
       called .kept .0 ∙ l .inv .3,
       rw (less, called .ensures, c .gate-bits .ensures .0)
-          (put-row (l .out) (a .list .now) (l .at) (l .p) (gateWidths (a .distance)) (a .n - l .i) 9 (gateBits (a .distance)) (omega arith) (length-gate (a .distance)) (total-gate (a .distance) (omega arith)))
+          (put-times (l .out) (a .list .now) (l .at) (l .p) (gateWidths (a .distance)) (a .n - l .i) 9 (gateBits (a .distance)) (omega arith) (length-gate (a .distance)) (total-gate (a .distance) (omega arith)))
           ∙ l .inv .4,
     )
 

@@ -1,4 +1,4 @@
--- `packets::gates::writing::put_packet` meets its contract: one write after the other makes the row of fields. Assumes nothing.
+-- `packets::gates::writing::put_packet` meets its contract: one write after the other makes the sub-packet.
 use Prim.Native.Nat.{ℕ, _+_, _-_, _*_, _/_}
 use mathlib.Core.Path.{_≡_, sym, ap, ap₂, _∙_}
 use mathlib.Core.List.{List}

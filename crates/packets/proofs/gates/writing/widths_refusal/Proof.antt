@@ -1,4 +1,4 @@
--- `packets::gates::writing::widths_refusal` meets its contract. The invariant: the refusal of the pieces left is that of all. Assumes nothing.
+-- `packets::gates::writing::widths_refusal` meets its contract. The invariant: the refusal of the pieces left is that of all.
 use Prim.Native.Nat.{ℕ, _+_, _-_, _*_, _≤_, _<_}
 use mathlib.Core.Path.{_≡_, sym, ap, _∙_}
 use mathlib.Core.List.{List}

@@ -1,4 +1,4 @@
--- `packets::gates::writing::write_gates` meets its contract: everything is judged first, and written afterwards. Assumes nothing.
+-- `packets::gates::writing::write_gates` meets its contract: everything is judged first, and written afterwards.
 use mathlib.Core.Path.{sym, _∙_}
 use lib.ListN.{length}
 use native.Mathlib.Omega.{arith}
@@ -21,9 +21,9 @@ put-packet-requires c κs = let g = taken (c .before) in
 
 returns-2 : tie.Need-returns-2
 returns-2 c = let a = c .before .before .before .before .before .before .before .before .args in
-    let judged = c .before .before .before .before .before .write-refusal in
+    let refusal = c .before .before .before .before .before .write-refusal in
     let made = c .before .before .put-packet in
-    write-accepted (a .list .now) (a .out .now) (judged .result) (judged .ensures) (c .before .before .before .before .if1 .left) (made .result) (made .last .0) (made .ensures .0) (made .ensures .1)
+    write-accepted (a .list .now) (a .out .now) (refusal .result) (refusal .ensures) (c .before .before .before .before .if1 .left) (made .result) (made .last .0) (made .ensures .0) (made .ensures .1)
 
 pub write-gates-spec : {M : Type 1} → statement M
 write-gates-spec =

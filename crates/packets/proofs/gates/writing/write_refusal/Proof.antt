@@ -1,4 +1,4 @@
--- `packets::gates::writing::write_refusal` meets its contract: the law for each way out. Assumes nothing.
+-- `packets::gates::writing::write_refusal` meets its contract: the law for each way out.
 use mathlib.Core.Path.{sym, _∙_}
 use native.Mathlib.Omega.{arith}
 use Rattle.packets.proofs.WritingLaws.{not-whole, too-many, bad-list, room-short, may-write}
