@@ -1,7 +1,8 @@
--- The age of a frame and the conditions that hang on it (document 01, "Frame age"). Assumes nothing.
+-- The age of a frame and the conditions that hang on it (document 01, "Frame age").
 use mathlib.Core.Bool.{Bool, cond, _||_}
 use Prim.Native.Nat.{ℕ, _-_, _/_}
 use lib.Dec.{leb, ltb}
+use Rattle.numbers.specs.Numbers.{oneIf}
 use Rattle.clock.specs.declared.FrameAge.{FrameAge}
 
 -- frame numbers run from 1 to this one
@@ -36,19 +37,15 @@ condition26 age = ltb 14 age
 abbrev pub condition27 : ℕ → Bool
 condition27 age = ltb age 5
 
--- a condition in an answer: 1 where it holds, 0 where it does not
-unfoldable pub flagOf : Bool → ℕ
-flagOf b = cond b 1 0
-
--- the answer for an age
+-- the answer for an age, each condition as 1 or 0
 unfoldable pub aged : ℕ → FrameAge
 aged age =
     record {
       answer = 0;
       age = age;
-      condition24 = flagOf (condition24 age);
-      condition26 = flagOf (condition26 age);
-      condition27 = flagOf (condition27 age);
+      condition24 = oneIf (condition24 age);
+      condition26 = oneIf (condition26 age);
+      condition27 = oneIf (condition27 age);
     }
 
 -- the answer's number on each ground of refusal

@@ -1,7 +1,8 @@
 // The frame age (document 01, "Frame age"), and whether the conditions that hang on it hold.
+use numbers::one_if;
 ghost use mathlib.Core.Path.{_≡_};
 ghost use mathlib.Core.Bool.{false};
-ghost use Rattle.clock.specs.Age.{notAFrame, refuses, difference, flagOf, aged, frameAge};
+ghost use Rattle.clock.specs.Age.{notAFrame, refuses, difference, aged, frameAge};
 
 const LAST_FRAME: u32 = 86_400;
 
@@ -45,15 +46,6 @@ fn difference(station: u32, onboard: u32) -> u32
     station - onboard
 }
 
-fn flag_of(holds: bool) -> u32
-    ensures { λ r. ⌜ r ≡ flagOf holds ⌝ }
-{
-    if holds {
-        return 1;
-    }
-    0
-}
-
 // The answer for an age.
 fn answer_for(age: u32) -> FrameAge
     ensures { λ r. ⌜ r ≡ aged age ⌝ }
@@ -61,9 +53,9 @@ fn answer_for(age: u32) -> FrameAge
     FrameAge {
         answer: 0,
         age,
-        condition24: flag_of(age <= 1),
-        condition26: flag_of(14 < age),
-        condition27: flag_of(age < 5),
+        condition24: one_if(age <= 1),
+        condition26: one_if(14 < age),
+        condition27: one_if(age < 5),
     }
 }
 

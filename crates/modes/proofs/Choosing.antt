@@ -1,5 +1,5 @@
 -- The choice among open transitions, one transition after the other.
--- Assumes nothing.
+--
 use mathlib.Core.Path.{_≡_, refl, ap, _∙_, sym}
 use mathlib.Core.Bool.{Bool, true, false, cond}
 use mathlib.Core.List.{List, [], _∷_, _++_, append-nil, List·Memᴰ}
@@ -9,11 +9,13 @@ use native.Mathlib.Nat.{min-eq-left, min-eq-right}
 use native.Mathlib.Omega.{arith}
 use lib.ListN.{length, length-append}
 use borrow.Author.Tests.{lt-ltb, le-ltb, eq-eqb, ne-eqb, eqb-true}
+use Rattle.numbers.specs.Numbers.{oneIf}
+use Rattle.numbers.proofs.Logic.{lt-or-le}
 use Rattle.transitions.specs.Table.{Transition, those}
 use Rattle.transitions.proofs.Members.{of-those, in-those, some, none}
 use Rattle.modes.specs.Next.{best, winners, hasPriority, lowest, tieMark, accepted, stays, choose}
 use Rattle.modes.specs.Kept.{kept}
-use Rattle.modes.proofs.Least.{order, least-below, least-one, least-more}
+use Rattle.modes.proofs.Least.{least-below, least-one, least-more}
 
 pub those-append : (p : Transition → Bool) (xs ys : List Transition) → those p (xs ++ ys) ≡ those p xs ++ those p ys
 those-append p [] ys = refl
@@ -90,10 +92,10 @@ choose-more m (x ∷ xs) a t =
     (λ h. rw (le-ltb (a .priority) (best (x ∷ xs)) h)
     (⊎-elim (λ l. rw (ne-eqb (a .priority) (best (x ∷ xs)) (λ e. omega arith)) (worse m x xs a l))
     (λ l. rw (eq-eqb (a .priority) (best (x ∷ xs)) (omega arith)) (equal m x xs a (omega arith)))
-    (order (best (x ∷ xs)) (a .priority))))
-    (order (a .priority) (best (x ∷ xs))))
+    (lt-or-le (best (x ∷ xs)) (a .priority))))
+    (lt-or-le (a .priority) (best (x ∷ xs))))
 
--- one more transition that is tried: what a walk does at each place
+-- one more transition that is tried: what a walk does at each turn
 pub walk-more : (q : Transition → Bool) (m : ℕ) (xs : List Transition) (a : Transition) → Positive xs → choose m (those q (xs ++ (a ∷ []))) ≡ cond (q a) (kept (choose m (those q xs)) (a .target) (a .priority)) (choose m (those q xs))
 walk-more q m xs a t = ap (choose m) (those-append q xs (a ∷ [])) ∙ go (q a)
   where
@@ -128,10 +130,10 @@ choice-stays m xs e = ap (choose m) e
 
 -- a tie mark is 1 for two or more, and 0 otherwise
 pub mark-two : (n : ℕ) → tieMark n ≡ 1 → 1 < n
-mark-two n e = ⊎-elim (λ h. h) (λ h. let z : tieMark n ≡ 0 = rw (le-ltb 1 n h) in omega arith) (order 1 n)
+mark-two n e = ⊎-elim (λ h. h) (λ h. let z : tieMark n ≡ 0 = rw (le-ltb 1 n h) in omega arith) (lt-or-le 1 n)
 
 pub two-mark : (n : ℕ) → 1 < n → tieMark n ≡ 1
 two-mark n h = rw (lt-ltb 1 n h)
 
 pub mark-small : (n : ℕ) → tieMark n ≤ 1
-mark-small n = ⊎-elim (λ h. rw (lt-ltb 1 n h) (omega arith)) (λ h. rw (le-ltb 1 n h) (omega arith)) (order 1 n)
+mark-small n = ⊎-elim (λ h. rw (lt-ltb 1 n h) (omega arith)) (λ h. rw (le-ltb 1 n h) (omega arith)) (lt-or-le 1 n)

@@ -1,5 +1,5 @@
 -- What the mode step (`nextStep`) promises, law by law. Each law speaks of every number as the mode and all bytes as the flags.
--- Assumes nothing.
+--
 use mathlib.Core.Path.{_≡_, refl, ap, _∙_, sym}
 use mathlib.Core.Bool.{Bool, true, false}
 use mathlib.Core.List.{List, [], List·Memᴰ}
@@ -9,12 +9,13 @@ use native.Mathlib.Omega.{arith}
 use lib.ListN.{length}
 use borrow.Author.Tests.{eq-eqb, eqb-true}
 use Rattle.modes.specs.declared.Step.{Step}
+use Rattle.numbers.proofs.Logic.{lt-or-le}
 use Rattle.transitions.specs.Names.{SB, IS}
 use Rattle.transitions.specs.Table.{Transition, table, those, leavesFrom}
 use Rattle.transitions.proofs.Members.{of-those, in-those, some, none, two-in, empty}
 use Rattle.transitions.proofs.Checked.{Apart, apart-those, first-two, table-checked}
 use Rattle.modes.specs.Next.{isOpen, opens, best, winners, hasPriority, lowest, tieMark, stays, choose, refuses, outOfRange, nextStep}
-use Rattle.modes.proofs.Least.{order, least-below, least-one}
+use Rattle.modes.proofs.Least.{least-below, least-one}
 use Rattle.modes.proofs.Choosing.{some-winner, positive-best, choice-mode, choice-priority, choice-tie, choice-answer, choice-stays, mark-two, two-mark, mark-small}
 use Rattle.modes.proofs.Stepping.{taken, next-refused, next-chosen}
 
@@ -125,7 +126,7 @@ module _ (m : ℕ) (flags : List ℕ) (good : refuses m flags ≡ false) where
   stays-exactly-when-none-open = (
     λ e a o.
         let h = some (opens m flags) (is-among m flags a o) in
-        let p = positive-best (opens m flags) h (λ b k. table-checked .entries b (is-open m flags b k .listed) .priority .0) in
+        let p = positive-best (opens m flags) h (λ b k. table-checked .transitions b (is-open m flags b k .listed) .priority .0) in
         omega (arith, priority-is, ap (λ (s : Step). s .priority) e),
     λ h. by-choice ∙ choice-stays m (opens m flags) (none-among h),
   )
@@ -161,8 +162,8 @@ module _ (m : ℕ) (flags : List ℕ) (good : refuses m flags ≡ false) where
       ⊎-elim
       (λ h.
       let w = least-one (λ (b : Transition). b .target) (winners (opens m flags)) (some-winner (opens m flags) h) in
-      rw (mode-is h ∙ w .2) (table-checked .entries (w .0) (of-winners (w .0) (w .1) .0 .listed) .target))
+      rw (mode-is h ∙ w .2) (table-checked .transitions (w .0) (of-winners (w .0) (w .1) .0 .listed) .target))
       (λ h.
       let t = taken m flags good in
       rw (ap (λ (s : Step). s .mode) (by-choice ∙ choice-stays m (opens m flags) (empty (opens m flags) h))) (t .low, t .high))
-      (order 0 (length (opens m flags)))
+      (lt-or-le 0 (length (opens m flags)))

@@ -1,24 +1,15 @@
 -- The least of a number of each transition in a list: it is below each, is that of one of them, and takes one more at the end.
--- Assumes nothing.
+--
 use mathlib.Core.Path.{_≡_, refl, ap, _∙_}
-use mathlib.Core.Bool.{Bool, true, false}
 use mathlib.Core.List.{List, [], _∷_, _++_, map, foldr, List·Memᴰ, List·Memᴰ·head, List·Memᴰ·tail, List·Memᴰ·not-nil, List·Memᴰ·cases-cons}
 use mathlib.Core.Logic.{⊎-elim, _⊎_, inl, inr}
 use Prim.Native.Nat.{ℕ, _≤_, _<_, min}
 use native.Mathlib.Nat.{min-comm, min-eq-left}
 use native.Mathlib.Omega.{arith}
-use lib.Dec.{ltb}
 use lib.ListN.{length}
-use borrow.Author.Tests.{ltb-true, ltb-false}
+use Rattle.numbers.proofs.Logic.{lt-or-le}
 use Rattle.transitions.specs.Table.{Transition}
 use Rattle.modes.specs.Next.{least}
-
-pub order : (a b : ℕ) → (a < b) ⊎ (b ≤ a)
-order a b = go (ltb a b) refl
-  where
-    go : (t : Bool) → ltb a b ≡ t → (a < b) ⊎ (b ≤ a)
-    go true e = inl (ltb-true a b e)
-    go false e = inr (ltb-false a b e)
 
 min-assoc : (a b c : ℕ) → min a (min b c) ≡ min (min a b) c
 min-assoc a b c = omega arith
@@ -43,7 +34,7 @@ module _ (f : Transition → ℕ) where
       go : (n : ℕ) → (n ≡ b) ⊎ ((a : Transition) × List·Memᴰ a xs × (n ≡ f a)) → (min (f x) n ≡ b) ⊎ ((a : Transition) × List·Memᴰ a (x ∷ xs) × (min (f x) n ≡ f a))
       go n ih =
           ⊎-elim (λ h. inr (x, List·Memᴰ·head refl, min-eq-left (omega arith)))
-          (λ h. ⊎-elim (λ e. inl (omega arith)) (λ w. inr (w .0, List·Memᴰ·tail (w .1), omega (arith, w .2))) ih) (order (f x) n)
+          (λ h. ⊎-elim (λ e. inl (omega arith)) (λ w. inr (w .0, List·Memᴰ·tail (w .1), omega (arith, w .2))) ih) (lt-or-le (f x) n)
 
   pub least-one : (xs : List Transition) → 0 < length xs → (a : Transition) × List·Memᴰ a xs × (least (map f xs) ≡ f a)
   least-one [] h = absurd (omega arith)

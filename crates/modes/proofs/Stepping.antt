@@ -1,7 +1,7 @@
--- The mode step: what input that is not refused gives a walk, and what the walk of a mode's rows gives the step.
--- Assumes nothing.
-use mathlib.Core.Path.{_≡_, refl, ap, _∙_, sym}
-use mathlib.Core.Bool.{Bool, true, false, _&&_, _||_, false≢true}
+-- The mode step: what input that is not refused gives a walk, and what the walk over a mode's transitions gives the step.
+--
+use mathlib.Core.Path.{_≡_, ap, _∙_, sym}
+use mathlib.Core.Bool.{true, false, _&&_, _||_}
 use mathlib.Core.List.{List}
 use Prim.Native.Nat.{ℕ, _+_, _≤_}
 use lib.Dec.{eqb, leb}
@@ -10,19 +10,11 @@ use lib.Seq.{slice}
 use borrow.Author.Tests.{leb-true, eqb-true, not-false}
 use Rattle.transitions.specs.Names.{SB, IS}
 use Rattle.transitions.specs.Table.{Transition, table, those}
-use Rattle.transitions.specs.Rows.{firstOf}
-use Rattle.transitions.proofs.Both.{both-left, both-right}
+use Rattle.transitions.specs.Held.{firstOf}
+use Rattle.numbers.proofs.Logic.{both-left, both-right, neither-left, neither-right}
 use Rattle.transitions.proofs.Held.{line}
 use Rattle.modes.specs.Flags.{flagCount, wrongCount, flagAboveOne}
 use Rattle.modes.specs.Next.{isOpen, opens, choose, modeOutOfRange, refuses, refused, nextStep}
-
-neither-left : (s t : Bool) → (s || t) ≡ false → s ≡ false
-neither-left false t e = refl
-neither-left true t e = e
-
-neither-right : (s t : Bool) → (s || t) ≡ false → t ≡ false
-neither-right false t e = e
-neither-right true t e = absurd (false≢true (sym e))
 
 -- what holds of a mode and flags that are not refused
 pub record Taken (m : ℕ) (fs : List ℕ) : Type 0 where
@@ -50,7 +42,7 @@ module _ (m : ℕ) (fs : List ℕ) where
   unfolding nextStep
   next-chosen e = rw e
 
-  -- the rows of the mode, walked from their first to the next mode's first
+  -- the transitions of the mode, walked from their first to the next mode's first
   pub next-walked : refuses m fs ≡ false → (a e : ℕ) → a ≡ firstOf m → e ≡ firstOf (m + 1) → choose m (those (isOpen fs) (slice a e table)) ≡ nextStep m fs
   next-walked t a e p q =
       ap (λ (l : List Transition). choose m (those (isOpen fs) l))

@@ -1,4 +1,4 @@
--- The condition flags (document 01, "Modes"). Assumes nothing.
+-- The condition flags (document 01, "Modes").
 use mathlib.Core.Bool.{Bool, false, not, _||_}
 use mathlib.Core.List.{List, [], _∷_}
 use Prim.Native.Nat.{ℕ, _-_}

@@ -1,10 +1,10 @@
--- What the code does with one row of the table. Only private functions cite this. Assumes nothing.
+-- What the code does with one transition of the table. Only private functions cite this.
 use mathlib.Core.Bool.{cond}
 use mathlib.Core.List.{List}
 use Prim.Native.Nat.{ℕ, min}
 use lib.Dec.{eqb, ltb}
-use lib.ListN.{getD, drop}
-use Rattle.transitions.specs.Rows.{stated}
+use lib.ListN.{getD}
+use Rattle.transitions.specs.Held.{stated}
 use Rattle.modes.specs.Flags.{anySet}
 use Rattle.modes.specs.Next.{accepted}
 use Rattle.modes.specs.declared.Step.{Step}
@@ -16,6 +16,6 @@ kept s target priority =
     (cond (ltb priority (s .priority)) (accepted target priority 0)
     (cond (eqb priority (s .priority)) (accepted (min (s .mode) target) priority 1) s))
 
--- the best step so far, after the transition in a row: it counts where one of its conditions is set
+-- the best step so far, after a transition given by its bytes: it counts where one of its conditions is set
 unfoldable pub considered : List ℕ → Step → List ℕ → Step
-considered flags s row = cond (anySet flags (stated (drop 2 row))) (kept s (getD row 0 0) (getD row 1 0)) s
+considered flags s bytes = cond (anySet flags (stated bytes)) (kept s (getD bytes 0 0) (getD bytes 1 0)) s

@@ -1,9 +1,10 @@
--- The mode step (document 01, "Modes"): of the open transitions those of the best priority, of these the lowest target. Assumes nothing.
+-- The mode step (document 01, "Modes"): of the open transitions those of the best priority, of these the lowest target.
 use mathlib.Core.Bool.{Bool, cond, not, _&&_, _||_}
 use mathlib.Core.List.{List, [], _∷_, map, foldr}
 use Prim.Native.Nat.{ℕ, min}
 use lib.Dec.{eqb, leb, ltb}
 use lib.ListN.{length}
+use Rattle.numbers.specs.Numbers.{oneIf}
 use Rattle.transitions.specs.Names.{SB, IS}
 use Rattle.transitions.specs.Table.{Transition, table, those, leavesFrom}
 use Rattle.modes.specs.Flags.{anySet, wrongCount, flagAboveOne}
@@ -40,7 +41,7 @@ lowest xs = least (map (λ a. a .target) xs)
 
 -- the tie mark, where n transitions share the best priority: 1 for two or more
 abbrev pub tieMark : ℕ → ℕ
-tieMark n = cond (ltb 1 n) 1 0
+tieMark n = oneIf (ltb 1 n)
 
 -- an accepted step: the next mode, the priority and the tie mark
 abbrev pub accepted : ℕ → ℕ → ℕ → Step

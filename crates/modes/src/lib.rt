@@ -1,20 +1,20 @@
 // The mode step (document 01, "Modes"): of the open transitions of a mode, the one of the best priority, by the lowest target.
 mod flags;
-mod row_bytes;
+mod widening;
 
-use row_bytes::index;
-use row_bytes::number;
-use transitions::Row;
-use transitions::Rows;
+use transitions::Transition;
+use transitions::Transitions;
 use transitions::first;
 use transitions::names;
+use widening::condition;
+use widening::number;
 ghost use mathlib.Core.Path.{_≡_};
 ghost use Prim.Native.Nat.{_≤_};
-ghost use lib.ListN.{length, drop};
+ghost use lib.ListN.{length};
 ghost use lib.Seq.{slice};
 ghost use Rattle.transitions.specs.Table.{transitionCount, table, those};
-ghost use Rattle.transitions.specs.Rows.{IsRow, tableRows, stated};
-ghost use Rattle.modes.specs.Flags.{flagCount, anySet};
+ghost use Rattle.transitions.specs.Held.{transitionBytes, tableBytes, stated};
+ghost use Rattle.modes.specs.Flags.{anySet};
 ghost use Rattle.modes.specs.Next.{accepted, choose, isOpen, refuses, nextStep};
 ghost use Rattle.modes.specs.Kept.{kept, considered};
 
@@ -44,18 +44,18 @@ fn is_refused(mode: u32, flags: &[u8]) -> bool
     flags::has_bad_flag(flags)
 }
 
-// Is one of the conditions of a row set? They stand from place 2 on, up to the first zero.
-fn is_open(flags: &[u8], row: &Row) -> bool
-    requires { ⌜ (length (now flags) ≡ flagCount) × IsRow (now row) ⌝ }
-    ensures { λ r. ⌜ r ≡ anySet (now (flags .entry)) (stated (drop 2 (now (row .entry)))) ⌝ }
+// Is one of the conditions of a transition set? They stand up to the first zero.
+fn is_open(flags: &[u8], transition: &Transition) -> bool
+    requires { ⌜ length (now transition) ≡ transitionBytes ⌝ }
+    ensures { λ r. ⌜ r ≡ anySet (now (flags .entry)) (stated (now (transition .entry))) ⌝ }
 {
-    let mut k = 2;
-    while k < transitions::WIDTH {
-        let n = index(row[k]);
+    let mut k = transitions::CONDITIONS;
+    while k < transitions::BYTES {
+        let n = condition(transition[k]);
         if n == 0 {
             return false;
         }
-        if flags[n - 1] == 1 {
+        if numbers::byte_at(flags, n - 1) == 1 {
             return true;
         }
         k += 1;
@@ -93,27 +93,31 @@ fn keep(best: Step, target: u32, priority: u32) -> Step
     best
 }
 
-// The best so far, after the transition in a row, which counts only if it is open.
-fn consider(flags: &[u8], row: &Row, best: Step) -> Step
-    requires { ⌜ (length (now flags) ≡ flagCount) × IsRow (now row) ⌝ }
-    ensures { λ r. ⌜ r ≡ considered (now (flags .entry)) best (now (row .entry)) ⌝ }
+// The best so far, after one more transition, which counts only if it is open.
+fn consider(flags: &[u8], transition: &Transition, best: Step) -> Step
+    requires { ⌜ length (now transition) ≡ transitionBytes ⌝ }
+    ensures { λ r. ⌜ r ≡ considered (now (flags .entry)) best (now (transition .entry)) ⌝ }
 {
-    if is_open(flags, row) {
-        return keep(best, number(row[0]), number(row[1]));
+    if is_open(flags, transition) {
+        return keep(
+            best,
+            number(transition[transitions::TARGET]),
+            number(transition[transitions::PRIORITY]),
+        );
     }
     best
 }
 
-// The step of the mode, whose transitions stand in the rows from `start` up to `end`.
-fn walk(flags: &[u8], rows: &Rows, mode: u32, start: usize, end: usize) -> Step
-    requires { ⌜ (length (now flags) ≡ flagCount) × (now rows ≡ tableRows) × (start ≤ end) × (end ≤ transitionCount) ⌝ }
+// The step of the mode, whose transitions stand in the table from `start` up to `end`.
+fn walk(flags: &[u8], held: &Transitions, mode: u32, start: usize, end: usize) -> Step
+    requires { ⌜ (now held ≡ tableBytes) × (start ≤ end) × (end ≤ transitionCount) ⌝ }
     ensures { λ r. ⌜ r ≡ choose mode (those (isOpen (now (flags .entry))) (slice start end table)) ⌝ }
 {
     let mut best = accept(mode, 0, 0);
     let mut t = start;
     while t < end {
-        let row = rows[t];
-        best = consider(flags, &row, best);
+        let transition = held[t];
+        best = consider(flags, &transition, best);
         t += 1;
     }
     best
@@ -131,7 +135,7 @@ pub fn next_mode(mode: u32, flags: &[u8]) -> Step
             tie: 0,
         };
     }
-    // only the rows of the one mode are walked; the table is taken once
-    let rows = transitions::rows();
-    walk(flags, &rows, mode, first(mode), first(mode + 1))
+    // only the transitions of the one mode are walked; the table is taken once
+    let held = transitions::all();
+    walk(flags, &held, mode, first(mode), first(mode + 1))
 }

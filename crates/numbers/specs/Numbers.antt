@@ -13,5 +13,5 @@ abbrev pub putNumber : ℕ → List ℕ → ℕ → ℕ → List ℕ
 putNumber n s i x = put s (8 * i) (8 * n) x
 
 -- a test as a number: 1 where it holds, 0 where it does not
-unfoldable pub oneIf : Bool → ℕ
+abbrev pub oneIf : Bool → ℕ
 oneIf b = cond b 1 0

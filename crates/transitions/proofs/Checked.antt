@@ -1,5 +1,5 @@
 -- The table, checked by one test that is computed over the whole of it, and what the test says of each transition.
--- Assumes nothing.
+--
 use mathlib.Core.Path.{_≡_, refl, _∙_, sym}
 use mathlib.Core.Bool.{Bool, true, false, cond, not, _&&_, false≢true}
 use mathlib.Core.List.{List, [], _∷_, List·Memᴰ, List·Memᴰ·head, List·Memᴰ·tail}
@@ -10,7 +10,7 @@ use lib.ListN.{length}
 use borrow.Author.Tests.{leb-true, eqb-true, eqb-false, not-true, eq-eqb}
 use Rattle.transitions.specs.Names.{SB, IS}
 use Rattle.transitions.specs.Table.{Transition, transitionCount, conditionCount, table, those}
-use Rattle.transitions.proofs.Both.{both-left, both-right}
+use Rattle.numbers.proofs.Logic.{both-left, both-right}
 use Rattle.transitions.proofs.Members.{of-those, all, each}
 
 -- is a number from a to b?
@@ -97,7 +97,7 @@ first-two (x ∷ (y ∷ ws)) h p = (x, y, List·Memᴰ·head refl, List·Memᴰ�
 -- 80 transitions; each has a priority from 1 to 9, a mode other than its own as the target, and conditions from 1 to 91; no two of a mode have the same target
 pub record TableChecked : Type 0 where
   pub eighty : length table ≡ transitionCount
-  pub entries : (a : Transition) → List·Memᴰ a table → Checked a
+  pub transitions : (a : Transition) → List·Memᴰ a table → Checked a
   pub targets : Apart table
 
 pub table-checked : TableChecked
@@ -105,6 +105,6 @@ table-checked =
     let rest = both-right (eqb (length table) transitionCount) (all sound table && apart table) tested in
     record {
       eighty = eqb-true (length table) transitionCount (both-left (eqb (length table) transitionCount) (all sound table && apart table) tested);
-      entries = λ a h. checked a (each sound table (both-left (all sound table) (apart table) rest) a h);
+      transitions = λ a h. checked a (each sound table (both-left (all sound table) (apart table) rest) a h);
       targets = are-apart table (both-right (all sound table) (apart table) rest);
     }

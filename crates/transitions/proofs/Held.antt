@@ -1,22 +1,21 @@
--- How the code holds the table: a row for each transition, the rows of a mode together.
--- Assumes nothing.
+-- How the code holds the table: each transition by its bytes, those of a mode together.
 use mathlib.Core.Path.{_≡_, refl, ap, _∙_, sym}
-use mathlib.Core.Bool.{Bool, true}
+use mathlib.Core.Bool.{true}
 use mathlib.Core.List.{List, [], _∷_, map}
 use Prim.Native.Nat.{ℕ, zero, suc, _+_, _≤_, _<_}
 use native.Mathlib.Numerals.{add-one}
 use native.Mathlib.Omega.{arith}
 use lib.Dec.{ltb}
-use lib.ListN.{length, getD, drop, List·getD-map}
+use lib.ListN.{length, getD, List·getD-map}
 use lib.Seq.{slice}
 use borrow.Author.Tests.{lt-ltb, ltb-true}
 use Rattle.transitions.specs.Names.{IS}
 use Rattle.transitions.specs.Table.{Transition, transitionCount, table, those, leavesFrom}
-use Rattle.transitions.specs.Rows.{rowWidth, rowOf, tableRows, firstOf, stated, known, IsRow}
+use Rattle.transitions.specs.Held.{transitionBytes, bytesOf, tableBytes, firstOf, stated}
 use Rattle.transitions.proofs.Members.{more-pass, no-more}
 use Rattle.transitions.proofs.Checked.{table-checked}
 
--- two functions that agree on each entry of a list, as is computed once, agree at every place of it
+-- two functions that agree on each element of a list, as is computed once, agree at every index of it
 same-at : {A B : Type 0} (f g : A → B) (xs : List A) (d : A) → map f xs ≡ map g xs → f d ≡ g d → (k : ℕ) → f (getD xs k d) ≡ g (getD xs k d)
 same-at f g xs d e z k = sym (List·getD-map f xs k d) ∙ ap (λ l. getD l k (f d)) e ∙ ap (getD (map g xs) k) z ∙ List·getD-map g xs k d
 
@@ -36,7 +35,7 @@ modes = numbers 0 14
 mode-at : (m : ℕ) → m ≤ IS → getD modes m 0 ≡ m
 mode-at m h = omega (arith, number-at 0 14 m (omega arith))
 
--- where the rows of each mode start
+-- where the transitions of each mode start
 unfoldable pub firsts : List ℕ
 firsts = map firstOf modes
 
@@ -91,7 +90,7 @@ line m h =
     let e = mode-at m h in
     ap leaving (sym e) ∙ same-at leaving stretch modes 0 lines line-none m ∙ ap stretch e ∙ ap (λ n. slice (firstOf m) (firstOf n) table) (sym (add-one m))
 
--- no transition, for the places that the table does not have
+-- no transition, for the indexes that the table does not have
 abbrev pub nowhere : Transition
 nowhere = record { leaves = 0; target = 0; conditions = []; priority = 0 }
 
@@ -104,35 +103,21 @@ map-at f [] t h = absurd (omega arith)
 map-at f (x ∷ xs) zero h = refl
 map-at f (x ∷ xs) (suc t) h = map-at f xs t (omega arith)
 
-pub row-at : (t : ℕ) → t < transitionCount → getD tableRows t [] ≡ rowOf (transitionAt t)
-unfolding tableRows
-row-at t h = map-at rowOf table t (omega (arith, table-checked .eighty))
+pub bytes-at : (t : ℕ) → t < transitionCount → getD tableBytes t [] ≡ bytesOf (transitionAt t)
+unfolding tableBytes
+bytes-at t h = map-at bytesOf table t (omega (arith, table-checked .eighty))
 
--- a row states the conditions of its transition, and can be looked up
-abbrev statedIn : Transition → List ℕ
-statedIn a = stated (drop 2 (rowOf a))
-
-abbrev knownIn : Transition → Bool
-knownIn a = known (drop 2 (rowOf a))
-
-all-stated : map statedIn table ≡ map (λ (a : Transition). a .conditions) table
-unfolding table
-all-stated = refl
-
-all-known : map knownIn table ≡ map (λ _. true) table
-unfolding table
-all-known = refl
-
-all-wide : map (λ (a : Transition). length (rowOf a)) table ≡ map (λ _. rowWidth) table
+-- a transition's bytes are so many, and state its conditions
+all-wide : map (λ (a : Transition). length (bytesOf a)) table ≡ map (λ _. transitionBytes) table
 unfolding table
 all-wide = refl
 
-pub stated-at : (t : ℕ) → stated (drop 2 (rowOf (transitionAt t))) ≡ transitionAt t .conditions
-stated-at = same-at statedIn (λ a. a .conditions) table nowhere all-stated refl
+pub wide-at : (t : ℕ) → length (bytesOf (transitionAt t)) ≡ transitionBytes
+wide-at = same-at (λ a. length (bytesOf a)) (λ _. transitionBytes) table nowhere all-wide refl
 
-pub is-row : (t : ℕ) → IsRow (rowOf (transitionAt t))
-is-row t =
-    record {
-      wide = same-at (λ a. length (rowOf a)) (λ _. rowWidth) table nowhere all-wide refl t;
-      conditions = same-at knownIn (λ _. true) table nowhere all-known refl t;
-    }
+all-stated : map (λ (a : Transition). stated (bytesOf a)) table ≡ map (λ (a : Transition). a .conditions) table
+unfolding table
+all-stated = refl
+
+pub stated-at : (t : ℕ) → stated (bytesOf (transitionAt t)) ≡ transitionAt t .conditions
+stated-at = same-at (λ a. stated (bytesOf a)) (λ a. a .conditions) table nowhere all-stated refl

@@ -1,4 +1,3 @@
-pub mod Both
 pub mod Members
 pub mod Checked
 pub mod Held

@@ -1,5 +1,5 @@
 -- Which transitions a list has: those that pass a test, a stretch of a list, a test that all pass.
--- Assumes nothing.
+--
 use mathlib.Core.Path.{_≡_, refl, ap, _∙_, sym}
 use mathlib.Core.Bool.{Bool, true, false, cond, _&&_, false≢true}
 use mathlib.Core.List.{List, [], _∷_, List·Memᴰ, List·Memᴰ·head, List·Memᴰ·tail, List·Memᴰ·not-nil, List·Memᴰ·cases-cons, List·Memᴰ·eq-of-singleton}
@@ -9,7 +9,7 @@ use native.Mathlib.Omega.{arith}
 use lib.ListN.{length, take, drop}
 use lib.Seq.{slice}
 use Rattle.transitions.specs.Table.{Transition, those}
-use Rattle.transitions.proofs.Both.{both-left, both-right}
+use Rattle.numbers.proofs.Logic.{both-left, both-right}
 
 module _ (p : Transition → Bool) (a : Transition) where
   -- one of those that pass is in the list, and passes

@@ -1,3 +1,3 @@
 pub mod Names
 pub mod Table
-pub mod Rows
+pub mod Held

@@ -1,4 +1,4 @@
--- The modes by their numbers (document 01, "Modes"). Assumes nothing.
+-- The modes by their numbers (document 01, "Modes").
 use Prim.Native.Nat.{ℕ}
 
 -- standby

@@ -1,4 +1,4 @@
--- The transitions between modes (document 000, A1.4), as document 01 writes them. Assumes nothing.
+-- The transitions between modes (document 000, A1.4), as document 01 writes them.
 use mathlib.Core.Bool.{Bool, cond}
 use mathlib.Core.List.{List, [], _∷_, _++_, map}
 use Prim.Native.Nat.{ℕ}

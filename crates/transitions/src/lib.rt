@@ -1,27 +1,33 @@
-// The 80 transitions between the modes (document 01, "Modes"), as rows of bytes, the rows of a mode together.
+// The 80 transitions between the modes (document 01, "Modes"), each by its bytes, those of a mode together.
 pub mod names;
 mod table;
 
 ghost use mathlib.Core.Path.{_≡_};
-ghost use Rattle.transitions.specs.Rows.{tableRows, firstOf};
+ghost use Rattle.transitions.specs.Held.{tableBytes, firstOf};
 
 const COUNT: usize = 80;
 
-// A row is the target, the priority and the conditions, filled up with zeros: the longest list has nine.
-pub const WIDTH: usize = 11;
+// A transition is the target, the priority and the conditions, filled up with zeros: the longest list has nine.
+pub const BYTES: usize = 11;
 
-pub type Row = [u8; WIDTH];
+pub const TARGET: usize = 0;
 
-pub type Rows = [Row; COUNT];
+pub const PRIORITY: usize = 1;
 
-// The whole table, a row for each transition.
-pub fn rows() -> Rows
-    ensures { λ r. ⌜ r ≡ tableRows ⌝ }
+pub const CONDITIONS: usize = 2;
+
+pub type Transition = [u8; BYTES];
+
+pub type Transitions = [Transition; COUNT];
+
+// The whole table.
+pub fn all() -> Transitions
+    ensures { λ r. ⌜ r ≡ tableBytes ⌝ }
 {
-    table::ROWS
+    table::TRANSITIONS
 }
 
-// Where the rows of a mode start; those of a number above the last mode's would start behind the last row.
+// Where the transitions of a mode start; those of a number above the last mode's would start behind the last one.
 pub fn first(mode: u32) -> usize
     ensures { λ r. ⌜ r ≡ firstOf mode ⌝ }
 {

@@ -1,11 +1,11 @@
-// The 80 transitions of document 01, one to a row, the rows of a mode together and in the document's order.
-use crate::Rows;
+// The 80 transitions of document 01, those of a mode together and in the document's order.
+use crate::Transitions;
 use crate::names::*;
 
-// The rows of mode m start at FIRST[m] and end where those of the next mode start.
+// The transitions of mode m start at FIRST[m] and end where those of the next mode start.
 pub(crate) const FIRST: [usize; 14] = [0, 0, 11, 18, 26, 37, 44, 54, 57, 63, 67, 71, 74, 77];
 
-pub(crate) const ROWS: Rows = [
+pub(crate) const TRANSITIONS: Transitions = [
     // SB
     [SR as u8, 4, 77, 60, 0, 0, 0, 0, 0, 0, 0],
     [LS as u8, 3, 61, 0, 0, 0, 0, 0, 0, 0, 0],

@@ -1,5 +1,5 @@
 -- `clock::difference` meets its contract.
--- Assumes nothing.
+--
 use mathlib.Core.Path.{refl}
 use native.Mathlib.Omega.{arith}
 use Rattle.clock.specs.Age.{difference}

@@ -1,5 +1,5 @@
 -- `clock::frame_age` meets its contract: the numbers are refused, or the age is half their difference.
--- Assumes nothing.
+--
 use mathlib.Core.Path.{ap, _∙_, sym}
 use Prim.Native.Nat.{_/_}
 use borrow.Author.Needs.{needs}

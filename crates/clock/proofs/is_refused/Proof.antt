@@ -1,5 +1,5 @@
 -- `clock::is_refused` meets its contract, a case for each test.
--- Assumes nothing.
+--
 use mathlib.Core.Path.{_∙_, sym}
 use Rattle.clock.specs.Age.{refuses, stationBelow}
 use borrow.Author.Needs.{needs}

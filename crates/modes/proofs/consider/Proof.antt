@@ -1,5 +1,5 @@
--- `modes::consider` meets its contract: the row's transition is open, or it is not.
--- Assumes nothing.
+-- `modes::consider` meets its contract: the transition is open, or it is not.
+--
 use mathlib.Core.Path.{ap, _∙_, sym}
 use lib.ListN.{getD}
 use borrow.Author.Needs.{needs}
@@ -31,7 +31,7 @@ returns c =
     let a = c .before .before .before .before .before .before .before .before .args in
     c .keep .ensures
     ∙ ap (λ n. kept (a .best) n (c .before .number2 .result)) (c .before .before .before .number .ensures)
-    ∙ ap (kept (a .best) (getD (a .row .now) 0 0)) (c .before .number2 .ensures)
+    ∙ ap (kept (a .best) (getD (a .transition .now) 0 0)) (c .before .number2 .ensures)
     ∙ sym (considered-open _ _ _ (sym (c .before .before .before .before .before .before .is-open .ensures) ∙ c .before .before .before .before .before .if1 .taken))
 
 returns-2 : tie.Need-returns-2

@@ -1,78 +1,51 @@
 -- `modes::is_open` meets its contract. The loop's invariant: no condition passed is set, so one is set exactly where one of the rest is.
--- Assumes nothing.
 use mathlib.Core.Path.{_≡_, refl, _∙_, sym}
-use mathlib.Core.Bool.{true}
-use Prim.Native.Nat.{_-_}
+use Prim.Native.Nat.{_≤_, _-_}
 use native.Mathlib.Omega.{arith}
-use lib.ListN.{drop}
+use lib.ListN.{getD, drop}
 use borrow.Author.Needs.{needs}
-use Rattle.transitions.specs.Rows.{stated, known}
+use Rattle.numbers.proofs.NumberLaws.{number-byte}
+use Rattle.transitions.specs.Held.{beforeZero, stated}
 use Rattle.modes.specs.Flags.{anySet}
-use Rattle.modes.proofs.Scanning.{known-here, known-next, any-fill, any-here, any-next, any-end}
+use Rattle.modes.proofs.Scanning.{any-zero, any-here, any-next, any-end}
 use Rattle.modes.proofs.is_open.Statement.{statement}
 use Rattle.modes.proofs.is_open.Tie as tie
 
 abbrev Inv-loop : tie.InvT-loop
-Inv-loop flags row k₀ k = (known (drop k row) ≡ true) × (anySet flags (stated (drop k row)) ≡ anySet flags (stated (drop 2 row)))
+Inv-loop flags transition k₀ k = anySet flags (beforeZero (drop k transition)) ≡ anySet flags (stated transition)
 
 abbrev μ-loop : tie.MeasureT-loop
-μ-loop flags row k₀ k = 11 - k
+μ-loop flags transition k₀ k = 11 - k
 
-loop-holds : tie.Need-loop-holds Inv-loop μ-loop
-loop-holds c = (c .before .pre .1 .conditions, refl)
-
-element-copy-out-index : tie.Need-element-copy-out-index Inv-loop μ-loop
-element-copy-out-index c = omega arith
-
-index-requires : tie.Need-index-requires Inv-loop μ-loop
-index-requires c κs = search needs
-
-sub-if2 : tie.Need-sub-if2 Inv-loop μ-loop
-sub-if2 c = omega arith
-
-shared-slice-read-if2 : tie.Need-shared-slice-read-if2 Inv-loop μ-loop
-shared-slice-read-if2 c =
-    let l = c .before .before .before .before .before .loop in
-    omega (arith, known-here _ (l .k) (omega arith) (l .inv .0))
+-- the flag that was looked up
+flag : (c : tie.After-byte-at Inv-loop μ-loop) → c .byte-at .result ≡ getD (c .before .before .before .before .before .before .before .args .flags .now) (c .before .before .condition .result - 1) 0
+flag c = let known = c .before .before .before .before .before .before in
+    let i = c .before .before .condition .result - 1 in
+    c .byte-at .ensures ∙ number-byte (known .before .args .flags .now) i (omega (arith, known .shared-slice-known .given i))
 
 returns : tie.Need-returns Inv-loop μ-loop
-returns c =
-    let l = c .before .before .before .before .loop in
-    sym (any-fill _ _ (l .k) (omega arith) (sym (c .before .index .ensures) ∙ c .if1 .taken)) ∙ l .inv .1
+returns c = let l = c .before .before .before .before .loop in
+    sym (any-zero _ _ (l .k) (omega arith) (sym (c .before .condition .ensures) ∙ c .if1 .taken)) ∙ l .inv
 
 returns-2 : tie.Need-returns-2 Inv-loop μ-loop
-returns-2 c =
-    let l = c .before .before .before .before .before .before .loop in
-    sym (any-here _ _ (l .k) (omega arith) (λ z. c .before .before .if1 .left (c .before .before .before .index .ensures ∙ z)) (rw (c .before .before .before .index .ensures) at (c .if2 .taken))) ∙ l .inv .1
-
-add-k : tie.Need-add-k Inv-loop μ-loop
-add-k c = omega arith
-
-loop-less : tie.Need-loop-less Inv-loop μ-loop
-loop-less c = omega arith
+returns-2 c = let l = c .before .before .before .before .before .before .loop in
+    let named = c .before .before .before .condition in
+    sym (any-here _ _ (l .k) (omega arith) (λ z. c .before .before .if1 .left (named .ensures ∙ z)) (rw (named .ensures) at (sym (flag (c .before)) ∙ c .if2 .taken)))
+    ∙ l .inv
 
 loop-again : tie.Need-loop-again Inv-loop μ-loop
-loop-again c =
-    let l = c .before .before .before .before .before .before .loop in
-    (known-next _ (l .k) (omega arith) (l .inv .0), sym (any-next _ _ (l .k) (omega arith) (λ z. c .before .before .if1 .left (c .before .before .before .index .ensures ∙ z)) (rw (c .before .before .before .index .ensures) at (c .if2 .left))) ∙ l .inv .1)
+loop-again c = let l = c .before .before .before .before .before .before .loop in
+    let named = c .before .before .before .condition in
+    let clear : getD (c .before .before .before .before .before .before .before .before .args .flags .now) (named .result - 1) 0 ≡ 1 → ⊥ = λ e. c .if2 .left (flag (c .before) ∙ e) in
+    sym (any-next _ _ (l .k) (omega arith) (λ z. c .before .before .if1 .left (named .ensures ∙ z)) (rw (named .ensures) at clear))
+    ∙ l .inv
 
 returns-3 : tie.Need-returns-3 Inv-loop μ-loop
-returns-3 c = sym (any-end _ _ (c .before .loop .k) (omega arith)) ∙ c .before .loop .inv .1
+returns-3 c = sym (any-end _ _ (c .before .loop .k) (omega arith)) ∙ c .before .loop .inv
 
 pub is-open-spec : {M : Type 1} → statement M
 is-open-spec =
     tie.close
     (tie.spec
-    Inv-loop
-    μ-loop
-    loop-holds
-    element-copy-out-index
-    index-requires
-    returns
-    sub-if2
-    shared-slice-read-if2
-    returns-2
-    add-k
-    loop-less
-    loop-again
-    returns-3)
+    Inv-loop μ-loop (λ c. refl) (λ c. search needs) (λ c κs. search needs) returns (λ c. search needs) (λ c κs. search needs) returns-2
+    (λ c. search needs) (λ c. search needs) loop-again returns-3)

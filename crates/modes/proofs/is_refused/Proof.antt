@@ -1,5 +1,5 @@
 -- `modes::is_refused` meets its contract, a case for each test.
--- Assumes nothing.
+--
 use mathlib.Core.Path.{_∙_}
 use borrow.Author.Tests.{le-leb, lt-leb, eq-eqb, ne-eqb}
 use Rattle.modes.specs.Next.{refuses}

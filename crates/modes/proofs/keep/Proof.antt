@@ -1,5 +1,5 @@
 -- `modes::keep` meets its contract, a case for each way through the tests.
--- Assumes nothing.
+--
 use mathlib.Core.Path.{_∙_}
 use Prim.Native.Nat.{_≤_}
 use native.Mathlib.Nat.{min-eq-left, min-eq-right}

@@ -1,5 +1,5 @@
--- `modes::next_mode` meets its contract: the rows of the mode stand from one start to the next.
--- Assumes nothing.
+-- `modes::next_mode` meets its contract: the transitions of the mode stand from one start to the next.
+--
 use mathlib.Core.Path.{_∙_, sym}
 use Prim.Native.Nat.{_+_}
 use native.Mathlib.Omega.{arith}
@@ -19,8 +19,8 @@ returns c = next-refused _ _ (sym (c .before .is-refused .ensures) ∙ c .if1 .t
 passed : (c : tie.Else1) → Taken (c .before .before .before .args .mode) (c .before .before .before .args .flags .now)
 passed c = taken _ _ (sym (c .before .is-refused .ensures) ∙ c .if1 .left)
 
-rows-requires : tie.Need-rows-requires
-rows-requires c κs = search needs
+all-requires : tie.Need-all-requires
+all-requires c κs = search needs
 
 first-requires : tie.Need-first-requires
 first-requires c κs = search needs
@@ -37,7 +37,7 @@ walk-requires c κs =
     let m = e .before .before .before .args .mode in
     let rise = starts-rise m (m + 1) (omega arith) in
     let last = starts-in (m + 1) in
-    (passed e .count, c .before .before .before .rows .ensures, omega (arith, c .before .first .ensures, c .first2 .ensures), omega (arith, c .first2 .ensures))
+    (c .before .before .before .all .ensures, omega (arith, c .before .first .ensures, c .first2 .ensures), omega (arith, c .first2 .ensures))
 
 returns-2 : tie.Need-returns-2
 returns-2 c =
@@ -51,7 +51,7 @@ next-mode-spec =
     (tie.spec
     is-refused-requires
     returns
-    rows-requires
+    all-requires
     first-requires
     add-first
     first-requires-2

@@ -1,5 +1,5 @@
 -- `modes::walk` meets its contract. The loop's invariant: the best so far is the choice among the transitions passed.
--- Assumes nothing.
+--
 use mathlib.Core.Path.{_≡_, _∙_}
 use Prim.Native.Nat.{_≤_, _-_}
 use native.Mathlib.Omega.{arith}
@@ -7,15 +7,15 @@ use lib.Seq.{slice}
 use borrow.Author.Needs.{needs}
 use Rattle.transitions.specs.Table.{table, those}
 use Rattle.modes.specs.Next.{isOpen, choose}
-use Rattle.modes.proofs.Walking.{walk-none, walk-step, lent-is-row}
+use Rattle.modes.proofs.Walking.{walk-none, walk-step, lent-wide}
 use Rattle.modes.proofs.walk.Statement.{statement}
 use Rattle.modes.proofs.walk.Tie as tie
 
 abbrev Inv-loop : tie.InvT-loop
-Inv-loop flags rows mode start end best₀ t₀ best t = (start ≤ t) × (t ≤ end) × (best ≡ choose mode (those (isOpen flags) (slice start t table)))
+Inv-loop flags held mode start end best₀ t₀ best t = (start ≤ t) × (t ≤ end) × (best ≡ choose mode (those (isOpen flags) (slice start t table)))
 
 abbrev μ-loop : tie.MeasureT-loop
-μ-loop flags rows mode start end best₀ t₀ best t = end - t
+μ-loop flags held mode start end best₀ t₀ best t = end - t
 
 accept-requires : tie.Need-accept-requires Inv-loop μ-loop
 accept-requires c κs = search needs
@@ -25,16 +25,14 @@ loop-holds c =
     let a = c .before .before .args in
     (omega arith, omega arith, c .accept .ensures ∙ walk-none (a .flags .now) (a .mode) (a .start))
 
-mul-row : tie.Need-mul-row Inv-loop μ-loop
-mul-row c = omega arith
+mul-transition : tie.Need-mul-transition Inv-loop μ-loop
+mul-transition c = omega arith
 
-element-copy-out-row : tie.Need-element-copy-out-row Inv-loop μ-loop
-element-copy-out-row c = omega arith
+element-copy-out-transition : tie.Need-element-copy-out-transition Inv-loop μ-loop
+element-copy-out-transition c = omega arith
 
 consider-requires : tie.Need-consider-requires Inv-loop μ-loop
-consider-requires c κs =
-    let s = c .before .before .before .before .before .before in
-    (s .pre .0, lent-is-row _ (s .pre .1) (c .before .before .before .loop .t) (omega arith))
+consider-requires c κs = lent-wide _ (c .before .before .before .before .before .before .pre .0) (c .before .before .before .loop .t) (omega arith)
 
 add-t : tie.Need-add-t Inv-loop μ-loop
 add-t c = omega arith
@@ -46,7 +44,7 @@ loop-again : tie.Need-loop-again Inv-loop μ-loop
 loop-again c =
     let s = c .before .before .before .before .before .before .before in
     let l = c .before .before .before .before .loop in
-    (omega arith, omega arith, walk-step (s .args .flags .now) _ (s .pre .1) (s .args .mode) (s .args .start) (l .t) (l .best) _ (l .inv .0) (omega arith) (l .inv .2) (c .consider .ensures))
+    (omega arith, omega arith, walk-step (s .args .flags .now) _ (s .pre .0) (s .args .mode) (s .args .start) (l .t) (l .best) _ (l .inv .0) (omega arith) (l .inv .2) (c .consider .ensures))
 
 returns : tie.Need-returns Inv-loop μ-loop
 returns c =
@@ -61,8 +59,8 @@ walk-spec =
     μ-loop
     accept-requires
     loop-holds
-    mul-row
-    element-copy-out-row
+    mul-transition
+    element-copy-out-transition
     consider-requires
     add-t
     loop-less

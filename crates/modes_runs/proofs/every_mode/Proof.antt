@@ -1,5 +1,5 @@
 -- `modes_runs::every_mode` meets its contract. The loop ends: the mode goes up to IS.
--- Assumes nothing.
+--
 use Prim.Native.Nat.{_≤_, _-_}
 use borrow.Author.Needs.{needs}
 use Rattle.modes_runs.proofs.every_mode.Statement.{statement}

@@ -1,5 +1,5 @@
 -- `modes_runs::steps` meets its contract. The loop ends: n goes up to 92.
--- Assumes nothing.
+--
 use Prim.Native.Nat.{_≤_, _-_}
 use borrow.Author.Needs.{needs}
 use Rattle.modes_runs.proofs.steps.Statement.{statement}

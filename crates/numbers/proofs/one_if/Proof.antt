@@ -5,11 +5,9 @@ use Rattle.numbers.proofs.one_if.Statement.{statement}
 use Rattle.numbers.proofs.one_if.Tie as tie
 
 returns : tie.Need-returns
-unfolding oneIf
 returns c = sym (ap oneIf (c .if1 .taken))
 
 returns-2 : tie.Need-returns-2
-unfolding oneIf
 returns-2 c = sym (ap oneIf (c .if1 .left))
 
 pub one-if-spec : {M : Type 1} → statement M

@@ -1,4 +1,4 @@
--- `packet_runs::print_bytes` is safe and ends: the bytes left fall. Assumes nothing.
+-- `packet_runs::print_bytes` is safe and ends: the bytes left fall.
 use Prim.Native.Nat.{_≤_, _-_}
 use lib.ListN.{length}
 use borrow.Author.Needs.{needs}

@@ -1,4 +1,4 @@
--- `packet_runs::run_all` is safe and ends: the bytes left fall. Assumes nothing.
+-- `packet_runs::run_all` is safe and ends: the bytes left fall.
 use Prim.Native.Nat.{_-_, _≤_, _+_}
 use lib.ListN.{length}
 use borrow.Author.Needs.{needs}

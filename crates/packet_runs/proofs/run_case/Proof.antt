@@ -1,4 +1,4 @@
--- `packet_runs::run_case` is safe, and every case takes some bytes. Assumes nothing.
+-- `packet_runs::run_case` is safe, and every case takes some bytes.
 use mathlib.Core.Path.{sym}
 use lib.Seq.{length-take-le}
 use native.Mathlib.Omega.{arith}

@@ -1,9 +1,9 @@
--- `transitions::first` meets its contract: the array has the start of each mode's rows, and no row stands behind the last mode's.
--- Assumes nothing.
+-- `transitions::first` meets its contract: the array has the start of each mode's transitions, and none stands behind the last mode's.
+--
 use mathlib.Core.Path.{refl}
 use borrow.Author.Needs.{needs}
 use Rattle.transitions.specs.Table.{table}
-use Rattle.transitions.specs.Rows.{firstOf}
+use Rattle.transitions.specs.Held.{firstOf}
 use Rattle.transitions.proofs.Held.{firsts, first-at, start-behind}
 use Rattle.transitions.proofs.first.Statement.{statement}
 use Rattle.transitions.proofs.first.Tie as tie

@@ -1,5 +1,5 @@
 -- `modes::flags::has_bad_flag` meets its contract. The loop's invariant: no flag passed is above 1, so one is exactly where one of the rest is.
--- Assumes nothing.
+--
 use mathlib.Core.Path.{_≡_, refl, _∙_, sym}
 use Prim.Native.Nat.{_≤_, _-_}
 use native.Mathlib.Omega.{arith}
