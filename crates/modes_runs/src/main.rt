@@ -3,8 +3,11 @@
 use transitions::names::*;
 ghost use mathlib.Core.Path.{_≡_};
 ghost use lib.ListN.{length};
+ghost use Rattle.modes.specs.Flags.{flagCount};
 
 const STANDARD_OUTPUT: i32 = 1;
+
+const FLAGS: usize = 91;
 
 fn text(s: &[u8]) {
     io::write_all(STANDARD_OUTPUT, s);
@@ -16,13 +19,13 @@ fn number(n: u32) {
 }
 
 // These flags with condition n set too; the same flags where there is no condition n.
-fn with(flags: [u8; 91], n: usize) -> [u8; 91]
-    requires { ⌜ 91 ≡ length flags ⌝ }
-    ensures { λ r. ⌜ 91 ≡ length r ⌝ }
+fn with(flags: [u8; FLAGS], n: usize) -> [u8; FLAGS]
+    requires { ⌜ flagCount ≡ length flags ⌝ }
+    ensures { λ r. ⌜ flagCount ≡ length r ⌝ }
 {
     let mut changed = flags;
     if 1 <= n {
-        if n <= 91 {
+        if n <= FLAGS {
             changed[n - 1] = 1;
         }
     }
@@ -30,10 +33,10 @@ fn with(flags: [u8; 91], n: usize) -> [u8; 91]
 }
 
 // 91 flags, of which condition n alone is set; n is 0 for none.
-fn single(n: usize) -> [u8; 91]
-    ensures { λ r. ⌜ 91 ≡ length r ⌝ }
+fn single(n: usize) -> [u8; FLAGS]
+    ensures { λ r. ⌜ flagCount ≡ length r ⌝ }
 {
-    with([0; 91], n)
+    with([0; FLAGS], n)
 }
 
 // The numbers of a step, as the rest of a line.
@@ -59,7 +62,7 @@ fn all(mode: u32) {
     text(b"step");
     number(mode);
     text(b" all");
-    step(mode, &[1; 91]);
+    step(mode, &[1; FLAGS]);
 }
 
 fn steps(mode: u32) {
@@ -106,7 +109,7 @@ fn refusals() {
     text(b"flags 92");
     step(SB, &[1; 92]);
     text(b"flag 2");
-    step(SB, &[2; 91]);
+    step(SB, &[2; FLAGS]);
 }
 
 fn age(station: u32, onboard: u32) {

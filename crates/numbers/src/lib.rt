@@ -1,7 +1,7 @@
 // Numbers of 1, 2 and 4 bytes that start at byte i, high byte first, read and put directly. A byte past the end reads as 0, and one that
 // would be put there is dropped. What they mean is a field at a bit position, which `specs` says for every width.
 ghost use mathlib.Core.Path.{_≡_};
-ghost use Prim.Native.Nat.{_%_};
+ghost use Prim.Native.Nat.{_%_, min};
 ghost use Rattle.numbers.specs.Numbers.{numberAt, putNumber, oneIf};
 
 fn wide(x: u8) -> u32
@@ -77,4 +77,11 @@ pub fn one_if(holds: bool) -> u32
     ensures { λ r. ⌜ r ≡ oneIf holds ⌝ }
 {
     if holds { 1 } else { 0 }
+}
+
+// The lower of two numbers.
+pub fn at_most(n: usize, most: usize) -> usize
+    ensures { λ r. ⌜ r ≡ min n most ⌝ }
+{
+    if n < most { n } else { most }
 }

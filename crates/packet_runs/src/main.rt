@@ -68,16 +68,10 @@ fn run_write(s: &[u8], out: &mut [u8]) {
     end_line();
 }
 
-fn fresh_output() -> [u8; 300]
+fn fresh_output() -> [u8; MOST_ROOM]
     ensures { λ r. ⌜ 300 ≡ length r ⌝ }
 {
-    [0xAA; 300]
-}
-
-fn at_most(n: usize, most: usize) -> usize
-    ensures { λ r. ⌜ (r ≤ n) × (r ≤ most) ⌝ }
-{
-    if n < most { n } else { most }
+    [0xAA; MOST_ROOM]
 }
 
 fn small(n: u32) -> usize
@@ -91,9 +85,9 @@ fn run_case(s: &[u8]) -> usize
     ensures { λ r. ⌜ (0 < r) × (r ≤ 65540) ⌝ }
 {
     let next = HEADER + small(numbers::half_at(s, 3));
-    let end = at_most(next, s.len());
-    let start = at_most(HEADER, end);
-    let room = at_most(small(numbers::half_at(s, 1)), MOST_ROOM);
+    let end = numbers::at_most(next, s.len());
+    let start = numbers::at_most(HEADER, end);
+    let room = numbers::at_most(small(numbers::half_at(s, 1)), MOST_ROOM);
     let mut out = fresh_output();
     let kind = numbers::byte_at(s, 0);
     match kind {

@@ -9,7 +9,7 @@ use lib.Dec.{lit≤}
 use lib.ListN.{length, getD}
 use Rattle.numbers.specs.Fields.{field}
 use Rattle.numbers.specs.Pieces.{total, times}
-use Rattle.packets.specs.Gates.{gateWidths, gateBits, bitsOf}
+use Rattle.packets.specs.Gates.{gateBytes, gateWidths, gateBits, bitsOf}
 use Rattle.numbers.proofs.FieldLaws.{field-lt}
 use Rattle.numbers.proofs.PieceLaws.{total-times}
 
@@ -17,7 +17,7 @@ pub total-gate : (distance : ℕ) → 8 ≤ distance → total (gateWidths dista
 unfolding total gateWidths
 total-gate distance h = omega arith
 
-pub length-gate : (distance : ℕ) → length (gateWidths distance) ≡ 9
+pub length-gate : (distance : ℕ) → length (gateWidths distance) ≡ gateBytes
 unfolding gateWidths
 length-gate distance = refl
 

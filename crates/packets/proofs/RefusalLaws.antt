@@ -1,8 +1,10 @@
 -- What a chain of grounds tells.
-use mathlib.Core.Path.{_≡_, refl}
+use mathlib.Core.Path.{_≡_, refl, sym, _∙_}
 use mathlib.Core.Bool.{Bool, true, false}
-use Prim.Native.Nat.{ℕ, zero, suc}
+use Prim.Native.Nat.{ℕ, zero, suc, _≤_, _<_}
 use native.Mathlib.Omega.{arith}
+use borrow.Author.Tests.{lt-ltb, le-ltb}
+use lib.Dec.{ltb}
 use Rattle.packets.specs.Refusals.{refuse, orElse, unlessRefused}
 
 -- where the chain has no refusal, neither has its first ground, nor what follows
@@ -32,6 +34,31 @@ pub refuse-none : (t : Bool) (n : ℕ) → refuse t (suc n) ≡ 0 → t ≡ fals
 unfolding refuse
 refuse-none true n e = absurd (omega arith)
 refuse-none false n e = refl
+
+-- along a chain: a ground that does not hold hands on, and one that holds is the answer
+pub next : (a rest : ℕ) {x : ℕ} → a ≡ 0 → x ≡ rest → x ≡ orElse a rest
+next a rest z e = e ∙ sym (orElse-go a rest z)
+
+pub ends : (a rest : ℕ) {x : ℕ} → x ≡ a → (x ≡ 0 → ⊥) → x ≡ orElse a rest
+ends a rest e ne = e ∙ orElse-stop a rest (λ z. ne (e ∙ z))
+
+-- the same of a ground whose test is that a lies below b, in the midst of a chain and at its end
+module _ (a b n : ℕ) where
+  pub not-below : (rest : ℕ) {x : ℕ} → b ≤ a → x ≡ rest → x ≡ orElse (refuse (ltb a b) n) rest
+  unfolding orElse refuse
+  not-below rest h e = rw (le-ltb a b h) e
+
+  pub below : (rest : ℕ) → a < b → suc n ≡ orElse (refuse (ltb a b) (suc n)) rest
+  unfolding orElse refuse
+  below rest h = rw (lt-ltb a b h)
+
+  pub last-not-below : b ≤ a → 0 ≡ refuse (ltb a b) n
+  unfolding refuse
+  last-not-below h = rw (le-ltb a b h)
+
+  pub last-below : a < b → n ≡ refuse (ltb a b) n
+  unfolding refuse
+  last-below h = rw (lt-ltb a b h)
 
 -- what an answer gives where there is no refusal, and where there is one
 pub unless-none : {A : Type 0} (n : ℕ) (a b : A) → n ≡ 0 → unlessRefused n a b ≡ a

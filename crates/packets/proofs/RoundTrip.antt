@@ -86,7 +86,7 @@ list-read distance s p (suc n) h =
     ∙ ap (λ (t : ℕ). unpack s p ws ++ unpack s (p + t) (times n ws)) (total-gate distance h) in
     rw e
     (ap₂ orElse (first-read distance s p more)
-    (ap (λ (l : List ℕ). listRefusal distance l n) (drop-at (unpack s p ws) more 9 (length-unpack s p ws ∙ length-gate distance))
+    (ap (λ (l : List ℕ). listRefusal distance l n) (drop-at (unpack s p ws) more gateBytes (length-unpack s p ws ∙ length-gate distance))
     ∙ list-read distance s (p + gateBits distance) n h))
 
 -- the gates that a sub-packet has get the same refusal outside as inside
@@ -151,12 +151,12 @@ fit-gates distance [] zero l e = none
 fit-gates distance (x ∷ list) zero l e = absurd (omega arith)
 fit-gates distance list (suc n) l e =
     let ws : List ℕ = gateWidths distance in
-    let nine : length ws ≡ 9 = length-gate distance in
+    let nine : length ws ≡ gateBytes = length-gate distance in
     let here : Fit ws (take (length ws) list) =
     fit-widths ws list (omega arith) (orElse-first _ _ (orElse-first _ _ e)) in
-    let rest : Fit (times n ws) (drop 9 list) =
-    fit-gates distance (drop 9 list) n (length-drop 9 list ∙ omega arith) (orElse-then _ _ e) in
-    subst (Fit (ws ++ times n ws)) (ap (λ (k : ℕ). take k list ++ drop 9 list) nine ∙ take-append-drop 9 list) (fit-append here rest)
+    let rest : Fit (times n ws) (drop gateBytes list) =
+    fit-gates distance (drop gateBytes list) n (length-drop gateBytes list ∙ omega arith) (orElse-then _ _ e) in
+    subst (Fit (ws ++ times n ws)) (ap (λ (k : ℕ). take k list ++ drop gateBytes list) nine ∙ take-append-drop gateBytes list) (fit-append here rest)
 
 -- a written sub-packet is its values, piece by piece
 values-written : (d most : ℕ) → Sayable d most → (list o : List ℕ) → Listed d most list (length o)

@@ -31,7 +31,7 @@ total-packet distance n h =
 
 -- ---- the walks over a gate's bytes and over the gates, a turn at a time
 
-pub widths-none : (distance : ℕ) (gate : List ℕ) → widthsRefusal (drop 9 (gateWidths distance)) gate ≡ 0
+pub widths-none : (distance : ℕ) (gate : List ℕ) → widthsRefusal (drop gateBytes (gateWidths distance)) gate ≡ 0
 unfolding widthsRefusal gateWidths
 widths-none distance gate = refl
 
@@ -62,18 +62,18 @@ unfolding listRefusal
 list-none distance list = refl
 
 list-more : (distance : ℕ) (list : List ℕ) (i m : ℕ) → 0 < m
-    → orElse (oneRefusal distance (drop i list)) (listRefusal distance (drop (i + 9) list) (m - 1)) ≡ listRefusal distance (drop i list) m
+    → orElse (oneRefusal distance (drop i list)) (listRefusal distance (drop (i + gateBytes) list) (m - 1)) ≡ listRefusal distance (drop i list) m
 unfolding listRefusal
 list-more distance list i m h =
     let e : suc (m - 1) ≡ m = omega arith in
-    ap (λ (l : List ℕ). orElse (oneRefusal distance (drop i list)) (listRefusal distance l (m - 1))) (sym (drop-drop 9 i list))
+    ap (λ (l : List ℕ). orElse (oneRefusal distance (drop i list)) (listRefusal distance l (m - 1))) (sym (drop-drop gateBytes i list))
     ∙ ap (listRefusal distance (drop i list)) e
 
 pub list-stop : (distance : ℕ) (list : List ℕ) (i m a : ℕ) → 0 < m → a ≡ oneRefusal distance (drop i list) → (a ≡ 0 → ⊥) → a ≡ listRefusal distance (drop i list) m
 list-stop distance list i m a h e ne = e ∙ orElse-stop _ _ (λ z. ne (e ∙ z)) ∙ list-more distance list i m h
 
 pub list-go : (distance : ℕ) (list : List ℕ) (i m a : ℕ) → 0 < m → a ≡ oneRefusal distance (drop i list) → a ≡ 0
-    → listRefusal distance (drop (i + 9) list) (m - 1) ≡ listRefusal distance (drop i list) m
+    → listRefusal distance (drop (i + gateBytes) list) (m - 1) ≡ listRefusal distance (drop i list) m
 list-go distance list i m a h e z = sym (orElse-go _ _ (sym e ∙ z)) ∙ list-more distance list i m h
 
 -- ---- the order of the rules, a law for each way that it can end

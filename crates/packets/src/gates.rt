@@ -7,7 +7,7 @@ use crate::refusals;
 ghost use mathlib.Core.Path.{_≡_};
 ghost use Prim.Native.Nat.{_<_, _≤_};
 ghost use lib.ListN.{getD};
-ghost use Rattle.packets.specs.Gates.{gateWidths, gateBits, bitsOf, gateRules};
+ghost use Rattle.packets.specs.Gates.{gateBytes, gateWidths, gateBits, bitsOf, gateRules};
 
 const GATE_TYPE: u32 = 3;
 
@@ -33,11 +33,11 @@ pub struct GatesAnswer {
 }
 
 // The widths of a gate's pieces behind the first, which is what the distance has above its low 8 bits.
-const WIDTHS: [usize; 9] = [0, 8, 2, 8, 3, 1, 3, 1, 2];
+const WIDTHS: [usize; GATE_BYTES] = [0, 8, 2, 8, 3, 1, 3, 1, 2];
 
 // The width of a gate's piece j.
 fn piece_width(distance: usize, j: usize) -> usize
-    requires { ⌜ (8 ≤ distance) × (distance ≤ 15) × (j < 9) ⌝ }
+    requires { ⌜ (8 ≤ distance) × (distance ≤ 15) × (j < gateBytes) ⌝ }
     ensures { λ r. ⌜ (r ≡ getD (gateWidths distance) j 0) × (r ≤ 8) ⌝ }
 {
     if j == 0 { distance - 8 } else { WIDTHS[j] }

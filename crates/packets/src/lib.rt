@@ -1,6 +1,6 @@
 // The packet layer (radio annex): bit fields, framing, and gate sub-packets both ways. It knows nothing of trains.
 //
-// Here are the bit fields of any width up to 32, private to the crate: bits run from the top bit of the first byte, a bit past the end reads as
+// Here are the bit fields, private to the crate, read up to 32 bits wide: bits run from the top bit of the first byte, a bit past the end reads as
 // 0, and putting one there does nothing.
 pub mod framing;
 pub mod gates;
@@ -62,7 +62,7 @@ fn put_bit(out: &mut [u8], p: usize, b: u32)
 
 // Makes the `width` bits from position `at` on the low digits of `value`; the last bit first.
 fn write_field(out: &mut [u8], at: usize, width: usize, value: u32)
-    requires { ⌜ (width ≤ 32) × (at ≤ 65535) ⌝ }
+    requires { ⌜ (width ≤ 65535) × (at ≤ 65535) ⌝ }
     ensures { λ r. ⌜ now (out .exit) ≡ put (now (out .entry)) at width value ⌝ }
 {
     let mut v = value;

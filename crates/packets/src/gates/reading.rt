@@ -7,7 +7,7 @@ ghost use Prim.Native.Nat.{_+_, _*_, _≤_};
 ghost use lib.ListN.{length};
 ghost use lib.Seq.{sets};
 ghost use Rattle.numbers.specs.Pieces.{times, unpack};
-ghost use Rattle.packets.specs.Gates.{gateWidths, gateRefusal};
+ghost use Rattle.packets.specs.Gates.{gateBytes, gateWidths, gateRefusal};
 ghost use Rattle.packets.specs.Reading.{countOf, fieldsRefusal, readRefusal, readAnswer, readInto};
 
 // The count of gates that the sub-packet says.
@@ -77,7 +77,7 @@ fn read_refusal(s: &[u8], room: usize, distance: usize) -> u32
 
 // Stores the bytes of the gate at bit p from index `at` on.
 fn fill_gate(s: &[u8], p: usize, distance: usize, out: &mut [u8], at: usize)
-    requires { ⌜ (p ≤ 2000) × (8 ≤ distance) × (distance ≤ 15) × (at + 9 ≤ length (now out)) ⌝ }
+    requires { ⌜ (p ≤ 2000) × (8 ≤ distance) × (distance ≤ 15) × (at + gateBytes ≤ length (now out)) ⌝ }
     ensures { λ _. ⌜ now (out .exit) ≡ sets (now (out .entry)) at (unpack (now (s .entry)) p (gateWidths distance)) ⌝ }
 {
     let mut q = p;
@@ -92,7 +92,7 @@ fn fill_gate(s: &[u8], p: usize, distance: usize, out: &mut [u8], at: usize)
 
 // Stores the bytes of n gates from bit 16 on.
 fn fill_gates(s: &[u8], distance: usize, n: usize, out: &mut [u8])
-    requires { ⌜ (8 ≤ distance) × (distance ≤ 15) × (n ≤ 31) × (9 * n ≤ length (now out)) ⌝ }
+    requires { ⌜ (8 ≤ distance) × (distance ≤ 15) × (n ≤ 31) × (gateBytes * n ≤ length (now out)) ⌝ }
     ensures { λ _. ⌜ now (out .exit) ≡ sets (now (out .entry)) 0 (unpack (now (s .entry)) 16 (times n (gateWidths distance))) ⌝ }
 {
     let mut p = 16;

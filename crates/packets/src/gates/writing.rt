@@ -5,14 +5,14 @@ ghost use mathlib.Core.Path.{_≡_};
 ghost use Prim.Native.Nat.{_+_, _*_, _≤_};
 ghost use lib.ListN.{length, drop};
 ghost use Rattle.numbers.specs.Pieces.{times, pack};
-ghost use Rattle.packets.specs.Gates.{gateWidths, sizeOf};
+ghost use Rattle.packets.specs.Gates.{gateBytes, gateWidths, sizeOf};
 ghost use Rattle.packets.specs.Writing.{written, widthsRefusal, oneRefusal, listRefusal, writeRefusal, writeAnswer, writeInto};
 
 const MOST_GATES: usize = 28;
 
 // The refusal of a byte of the gate at index `at` that has more digits than its piece is wide.
 fn widths_refusal(list: &[u8], at: usize, distance: usize) -> u32
-    requires { ⌜ (8 ≤ distance) × (distance ≤ 15) × (at + 9 ≤ length (now list)) ⌝ }
+    requires { ⌜ (8 ≤ distance) × (distance ≤ 15) × (at + gateBytes ≤ length (now list)) ⌝ }
     ensures { λ r. ⌜ r ≡ widthsRefusal (gateWidths distance) (drop at (now (list .entry))) ⌝ }
 {
     let mut j = 0;
@@ -28,7 +28,7 @@ fn widths_refusal(list: &[u8], at: usize, distance: usize) -> u32
 
 // The refusal that the gate at index `at` gets.
 fn one_refusal(list: &[u8], at: usize, distance: usize) -> u32
-    requires { ⌜ (8 ≤ distance) × (distance ≤ 15) × (at + 9 ≤ length (now list)) ⌝ }
+    requires { ⌜ (8 ≤ distance) × (distance ≤ 15) × (at + gateBytes ≤ length (now list)) ⌝ }
     ensures { λ r. ⌜ r ≡ oneRefusal distance (drop at (now (list .entry))) ⌝ }
 {
     let widths = widths_refusal(list, at, distance);
@@ -44,7 +44,7 @@ fn one_refusal(list: &[u8], at: usize, distance: usize) -> u32
 
 // The first refusal of the n gates of a list.
 fn list_refusal(list: &[u8], distance: usize, n: usize) -> u32
-    requires { ⌜ (8 ≤ distance) × (distance ≤ 15) × (9 * n ≤ length (now list)) ⌝ }
+    requires { ⌜ (8 ≤ distance) × (distance ≤ 15) × (gateBytes * n ≤ length (now list)) ⌝ }
     ensures { λ r. ⌜ r ≡ listRefusal distance (now (list .entry)) n ⌝ }
 {
     let mut at = 0;
@@ -84,7 +84,7 @@ fn write_refusal(list: &[u8], room: usize, distance: usize, most: usize) -> u32
 
 // Writes the gate at index `at` of a list at bit p.
 fn put_gate(out: &mut [u8], p: usize, distance: usize, list: &[u8], at: usize)
-    requires { ⌜ (p ≤ 2000) × (8 ≤ distance) × (distance ≤ 15) × (at + 9 ≤ length (now list)) ⌝ }
+    requires { ⌜ (p ≤ 2000) × (8 ≤ distance) × (distance ≤ 15) × (at + gateBytes ≤ length (now list)) ⌝ }
     ensures { λ _. ⌜ now (out .exit) ≡ pack (now (out .entry)) p (gateWidths distance) (drop at (now (list .entry))) ⌝ }
 {
     let mut q = p;
@@ -99,7 +99,7 @@ fn put_gate(out: &mut [u8], p: usize, distance: usize, list: &[u8], at: usize)
 
 // Writes the n gates of a list from bit 16 on.
 fn put_gates(out: &mut [u8], distance: usize, list: &[u8], n: usize)
-    requires { ⌜ (8 ≤ distance) × (distance ≤ 15) × (n ≤ 31) × (9 * n ≤ length (now list)) ⌝ }
+    requires { ⌜ (8 ≤ distance) × (distance ≤ 15) × (n ≤ 31) × (gateBytes * n ≤ length (now list)) ⌝ }
     ensures { λ _. ⌜ now (out .exit) ≡ pack (now (out .entry)) 16 (times n (gateWidths distance)) (now (list .entry)) ⌝ }
 {
     let mut p = 16;
@@ -115,7 +115,7 @@ fn put_gates(out: &mut [u8], distance: usize, list: &[u8], n: usize)
 
 // Writes the whole sub-packet of the n gates of a list, and answers its bytes.
 fn put_packet(out: &mut [u8], distance: usize, list: &[u8], n: usize) -> usize
-    requires { ⌜ (8 ≤ distance) × (distance ≤ 15) × (n ≤ 31) × (length (now list) ≡ 9 * n) ⌝ }
+    requires { ⌜ (8 ≤ distance) × (distance ≤ 15) × (n ≤ 31) × (length (now list) ≡ gateBytes * n) ⌝ }
     ensures { λ r. ⌜ r ≡ sizeOf distance n ⌝ }
     ensures { λ _. ⌜ now (out .exit) ≡ written distance (now (list .entry)) (now (out .entry)) ⌝ }
 {

@@ -8,26 +8,26 @@ use lib.ListN.{length, set, drop, length-set}
 use lib.Seq.{sets}
 use Rattle.numbers.specs.Fields.{field}
 use Rattle.numbers.specs.Pieces.{unpack}
-use Rattle.packets.specs.Gates.{gateWidths}
+use Rattle.packets.specs.Gates.{gateBytes, gateWidths}
 use Rattle.numbers.proofs.PieceLaws.{fill-step, unpack-nil}
 use Rattle.packets.proofs.GateLaws.{length-gate, piece-byte}
 use borrow.Author.Needs.{needs}
 use Rattle.packets.proofs.gates.reading.fill_gate.Statement.{statement}
 use Rattle.packets.proofs.gates.reading.fill_gate.Tie as tie
 
-nothing : (distance : ℕ) → drop 9 (gateWidths distance) ≡ []
+nothing : (distance : ℕ) → drop gateBytes (gateWidths distance) ≡ []
 unfolding gateWidths
 nothing distance = refl
 
 abbrev Inv-loop : tie.InvT-loop
 Inv-loop s p distance out₀ at q₀ j₀ out q j =
-    (j ≤ 9)
+    (j ≤ gateBytes)
     × (q ≤ p + 8 * j)
     × (length out ≡ length out₀)
     × (sets out (at + j) (unpack s q (drop j (gateWidths distance))) ≡ sets out₀ at (unpack s p (gateWidths distance)))
 
 abbrev μ-loop : tie.MeasureT-loop
-μ-loop s p distance out₀ at q₀ j₀ out q j = 9 - j
+μ-loop s p distance out₀ at q₀ j₀ out q j = gateBytes - j
 
 loop-holds : tie.Need-loop-holds Inv-loop μ-loop
 loop-holds c = let a = c .before .before .args in
@@ -54,7 +54,7 @@ loop-again c = let l = c .before .before .before .loop in
 returns : tie.Need-returns Inv-loop μ-loop
 returns c = let l = c .before .loop in
     let a = c .before .before .before .before .args in
-    let e : l .j ≡ 9 = omega arith in
+    let e : l .j ≡ gateBytes = omega arith in
     let none : drop (l .j) (gateWidths (a .distance)) ≡ [] = rw e (nothing (a .distance)) in
     ap (sets (l .out) (a .at + l .j)) (sym (unpack-nil (a .s .now) (l .q)) ∙ ap (unpack (a .s .now) (l .q)) (sym none)) ∙ l .inv .3
 

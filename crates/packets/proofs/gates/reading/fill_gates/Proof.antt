@@ -6,7 +6,7 @@ use native.Mathlib.Omega.{arith}
 use lib.ListN.{length}
 use lib.Seq.{sets}
 use Rattle.numbers.specs.Pieces.{times, unpack}
-use Rattle.packets.specs.Gates.{gateWidths, gateBits}
+use Rattle.packets.specs.Gates.{gateBytes, gateWidths, gateBits}
 use Rattle.numbers.proofs.PieceLaws.{fill-times}
 use Rattle.packets.proofs.GateLaws.{length-gate, total-gate}
 use borrow.Author.Needs.{needs}
@@ -17,7 +17,7 @@ abbrev Inv-loop : tie.InvT-loop
 Inv-loop s distance n out₀ p₀ at₀ i₀ out p at i =
     (i ≤ n)
     × (p ≤ 16 + 35 * i)
-    × (at ≡ 9 * i)
+    × (at ≡ gateBytes * i)
     × (length out ≡ length out₀)
     × (sets out at (unpack s p (times (n - i) (gateWidths distance))) ≡ sets out₀ 0 (unpack s 16 (times n (gateWidths distance))))
 
@@ -38,7 +38,7 @@ loop-again c = let called = c .before .before .before .fill-gate in
       omega arith,
       called .kept .1 .1 .1 .0 ∙ l .inv .3,
       rw (less, called .ensures, c .gate-bits .ensures .0)
-          (fill-times (l .out) (a .s .now) (l .at) (l .p) (gateWidths (a .distance)) (a .n - l .i) 9 (gateBits (a .distance)) (omega arith) (length-gate (a .distance)) (total-gate (a .distance) (omega arith)))
+          (fill-times (l .out) (a .s .now) (l .at) (l .p) (gateWidths (a .distance)) (a .n - l .i) gateBytes (gateBits (a .distance)) (omega arith) (length-gate (a .distance)) (total-gate (a .distance) (omega arith)))
           ∙ l .inv .4,
     )
 

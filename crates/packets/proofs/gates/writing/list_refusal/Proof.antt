@@ -3,6 +3,7 @@ use Prim.Native.Nat.{ℕ, _+_, _-_, _*_, _≤_, _<_}
 use mathlib.Core.Path.{_≡_, sym, ap, _∙_}
 use native.Mathlib.Omega.{arith}
 use lib.ListN.{drop}
+use Rattle.packets.specs.Gates.{gateBytes}
 use Rattle.packets.specs.Writing.{listRefusal}
 use Rattle.packets.proofs.WritingLaws.{list-none, list-stop, list-go}
 use borrow.Author.Needs.{needs}
@@ -11,7 +12,7 @@ use Rattle.packets.proofs.gates.writing.list_refusal.Tie as tie
 
 abbrev Inv-loop : tie.InvT-loop
 Inv-loop list distance n at₀ i₀ at i =
-    (i ≤ n) × (at ≡ 9 * i) × (listRefusal distance (drop at list) (n - i) ≡ listRefusal distance list n)
+    (i ≤ n) × (at ≡ gateBytes * i) × (listRefusal distance (drop at list) (n - i) ≡ listRefusal distance list n)
 
 abbrev μ-loop : tie.MeasureT-loop
 μ-loop list distance n at₀ i₀ at i = n - i
@@ -33,7 +34,7 @@ loop-again c = let l = c .before .before .before .loop in
     let less : a .n - (l .i + 1) ≡ a .n - l .i - 1 = omega arith in (
       omega arith,
       omega arith,
-      ap (listRefusal (a .distance) (drop (l .at + 9) (a .list .now))) less
+      ap (listRefusal (a .distance) (drop (l .at + gateBytes) (a .list .now))) less
           ∙ list-go (a .distance) (a .list .now) (l .at) (a .n - l .i) (called .result) (omega arith) (called .ensures) (c .if1 .left)
           ∙ l .inv .2,
     )

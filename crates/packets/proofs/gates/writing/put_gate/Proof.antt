@@ -7,7 +7,7 @@ use native.Mathlib.Omega.{arith}
 use lib.ListN.{length, getD, drop}
 use Rattle.numbers.specs.Fields.{put}
 use Rattle.numbers.specs.Pieces.{pack}
-use Rattle.packets.specs.Gates.{gateWidths}
+use Rattle.packets.specs.Gates.{gateBytes, gateWidths}
 use Rattle.numbers.proofs.NumberLaws.{number-byte}
 use Rattle.numbers.proofs.PieceLaws.{put-step, pack-zero}
 use Rattle.packets.proofs.GateLaws.{length-gate}
@@ -15,19 +15,19 @@ use borrow.Author.Needs.{needs}
 use Rattle.packets.proofs.gates.writing.put_gate.Statement.{statement}
 use Rattle.packets.proofs.gates.writing.put_gate.Tie as tie
 
-nothing : (o : List ℕ) (q distance : ℕ) (list : List ℕ) → pack o q (drop 9 (gateWidths distance)) list ≡ o
+nothing : (o : List ℕ) (q distance : ℕ) (list : List ℕ) → pack o q (drop gateBytes (gateWidths distance)) list ≡ o
 unfolding gateWidths
 nothing o q distance list = pack-zero o q list
 
 abbrev Inv-loop : tie.InvT-loop
 Inv-loop out₀ p distance list at q₀ j₀ out q j =
-    (j ≤ 9)
+    (j ≤ gateBytes)
     × (q ≤ p + 8 * j)
     × (length out ≡ length out₀)
     × (pack out q (drop j (gateWidths distance)) (drop (at + j) list) ≡ pack out₀ p (gateWidths distance) (drop at list))
 
 abbrev μ-loop : tie.MeasureT-loop
-μ-loop out₀ p distance list at q₀ j₀ out q j = 9 - j
+μ-loop out₀ p distance list at q₀ j₀ out q j = gateBytes - j
 
 loop-holds : tie.Need-loop-holds Inv-loop μ-loop
 loop-holds c = let a = c .before .before .args in
@@ -56,7 +56,7 @@ loop-again c = let called = c .before .before .write-field in
 returns : tie.Need-returns Inv-loop μ-loop
 returns c = let l = c .before .loop in
     let a = c .before .before .before .before .args in
-    let e : 9 ≡ l .j = omega arith in
+    let e : gateBytes ≡ l .j = omega arith in
     sym (nothing (l .out) (l .q) (a .distance) (drop (a .at + l .j) (a .list .now)))
     ∙ ap (λ (k : ℕ). pack (l .out) (l .q) (drop k (gateWidths (a .distance))) (drop (a .at + l .j) (a .list .now))) e
     ∙ l .inv .3

@@ -5,7 +5,7 @@ use mathlib.Core.List.{List}
 use native.Mathlib.Omega.{arith}
 use lib.ListN.{length, drop}
 use Rattle.numbers.specs.Pieces.{times, pack}
-use Rattle.packets.specs.Gates.{gateWidths, gateBits}
+use Rattle.packets.specs.Gates.{gateBytes, gateWidths, gateBits}
 use Rattle.numbers.proofs.PieceLaws.{put-times, pack-zero}
 use Rattle.packets.proofs.GateLaws.{length-gate, total-gate}
 use borrow.Author.Needs.{needs}
@@ -16,7 +16,7 @@ abbrev Inv-loop : tie.InvT-loop
 Inv-loop out₀ distance list n p₀ at₀ i₀ out p at i =
     (i ≤ n)
     × (p ≤ 16 + 35 * i)
-    × (at ≡ 9 * i)
+    × (at ≡ gateBytes * i)
     × (length out ≡ length out₀)
     × (pack out p (times (n - i) (gateWidths distance)) (drop at list) ≡ pack out₀ 16 (times n (gateWidths distance)) list)
 
@@ -37,7 +37,7 @@ loop-again c = let called = c .before .before .before .put-gate in
       omega arith,
       called .kept .0 ∙ l .inv .3,
       rw (less, called .ensures, c .gate-bits .ensures .0)
-          (put-times (l .out) (a .list .now) (l .at) (l .p) (gateWidths (a .distance)) (a .n - l .i) 9 (gateBits (a .distance)) (omega arith) (length-gate (a .distance)) (total-gate (a .distance) (omega arith)))
+          (put-times (l .out) (a .list .now) (l .at) (l .p) (gateWidths (a .distance)) (a .n - l .i) gateBytes (gateBits (a .distance)) (omega arith) (length-gate (a .distance)) (total-gate (a .distance) (omega arith)))
           ∙ l .inv .4,
     )
 

@@ -5,7 +5,7 @@ use mathlib.Core.List.{List}
 use native.Mathlib.Nat.{add-zero, add-assoc}
 use native.Mathlib.Omega.{arith}
 use lib.ListN.{length, getD, drop}
-use Rattle.packets.specs.Gates.{gateWidths}
+use Rattle.packets.specs.Gates.{gateBytes, gateWidths}
 use Rattle.packets.specs.Writing.{widthsRefusal}
 use Rattle.numbers.proofs.NumberLaws.{number-byte}
 use Rattle.packets.proofs.GateLaws.{length-gate}
@@ -16,10 +16,10 @@ use Rattle.packets.proofs.gates.writing.widths_refusal.Tie as tie
 
 abbrev Inv-loop : tie.InvT-loop
 Inv-loop list at distance j₀ j =
-    (j ≤ 9) × (widthsRefusal (drop j (gateWidths distance)) (drop (at + j) list) ≡ widthsRefusal (gateWidths distance) (drop at list))
+    (j ≤ gateBytes) × (widthsRefusal (drop j (gateWidths distance)) (drop (at + j) list) ≡ widthsRefusal (gateWidths distance) (drop at list))
 
 abbrev μ-loop : tie.MeasureT-loop
-μ-loop list at distance j₀ j = 9 - j
+μ-loop list at distance j₀ j = gateBytes - j
 
 loop-holds : tie.Need-loop-holds Inv-loop μ-loop
 loop-holds c = let a = c .before .args in
@@ -53,7 +53,7 @@ loop-again c = let l = c .before .before .before .before .before .loop in
 returns-2 : tie.Need-returns-2 Inv-loop μ-loop
 returns-2 c = let l = c .before .loop in
     let a = c .before .before .before .args in
-    let e : 9 ≡ l .j = omega arith in
+    let e : gateBytes ≡ l .j = omega arith in
     sym (widths-none (a .distance) (drop (a .at + l .j) (a .list .now)))
     ∙ ap (λ (k : ℕ). widthsRefusal (drop k (gateWidths (a .distance))) (drop (a .at + l .j) (a .list .now))) e
     ∙ l .inv .1
