@@ -7,7 +7,7 @@ use Prim.Native.Nat.{ℕ, zero, suc, _+_, _*_, _≤_, _<_}
 use native.Mathlib.Decide.{ℕ-discrete}
 use native.Mathlib.Nat.{mul-suc}
 use native.Mathlib.Omega.{arith}
-use borrow.Author.Tests.{le-ltb, ne-eqb}
+use borrow.Author.Tests.{le-ltb}
 use lib.Dec.{ltb, eqb}
 use lib.ListN.{length, take, drop, length-append}
 use lib.Seq.{length-take-le, take-take, take-append-seam}
@@ -20,14 +20,9 @@ use Rattle.packets.specs.Framing.{typeOf, lengthOf, headRefusal, lastTyp
 use Rattle.packets.specs.Gates.{gateType, distanceWidth, gateBytes, gateWidths, gateBits, bitsOf, sizeOf, paddingBits, gateRefusal, refusedWith, acceptedWith}
 use Rattle.packets.specs.Reading.{countOf, gatesOf, fieldsRefusal, paddingOf, readRefusal, readAnswer, readInto}
 use Rattle.packets.specs.declared.gates.GatesAnswer.{GatesAnswer}
-use Rattle.packets.proofs.RefusalLaws.{unless-none, unless-some}
+use Rattle.packets.proofs.RefusalLaws.{differ, unless-some}
 use Rattle.packets.proofs.GateLaws.{total-gate, bits-gates}
 use Rattle.packets.proofs.ReadingLaws.{Gated, gated}
-
--- a length that is not the one for the count ends the chain
-mismatch : (a b more : ℕ) → (a ≡ b → ⊥) → orElse (refuse (not (eqb a b)) lengthNotForCount) more ≡ lengthNotForCount
-unfolding orElse refuse
-mismatch a b more ne = simp (ne-eqb a b ne)
 
 -- gates that lie in the first n bytes get the refusal that they get of these bytes
 fields-front : (distance : ℕ) (s : List ℕ) (p m n : ℕ) → 8 ≤ distance → p + gateBits distance * m ≤ 8 * n
@@ -102,8 +97,8 @@ module _ (s : List ℕ) (n : ℕ) (two : 2 ≤ n) (whole : lengthOf s ≤ n) (th
             (orElse (refuse (ltb 0 (padding-front right i)) paddingSet) (refuse (ltb room (gateBytes * count-front i)) noRoom))))
         of (no wrong) =
             ap₂ orElse (head-front gateType gateType)
-            (mismatch (lengthOf (take n s)) (sizeOf distance (countOf (take n s))) _ (λ e. wrong (sym length-front ∙ e ∙ ap (sizeOf distance) count-front))
-            ∙ sym (mismatch (lengthOf s) (sizeOf distance (countOf s)) _ wrong))
+            (sym (differ (lengthOf (take n s)) (sizeOf distance (countOf (take n s))) _ _ (λ e. wrong (sym length-front ∙ e ∙ ap (sizeOf distance) count-front)))
+            ∙ differ (lengthOf s) (sizeOf distance (countOf s)) _ _ wrong)
 
   module _ (o : List ℕ) where
     same-refusal : readRefusal distanceWidth (take n s) (length o) ≡ readRefusal distanceWidth s (length o)

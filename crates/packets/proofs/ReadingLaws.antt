@@ -4,7 +4,7 @@ use mathlib.Core.List.{List, _++_}
 use Prim.Native.Nat.{ℕ, zero, suc, _+_, _-_, _*_, _/_, _%_, _≤_, _<_}
 use native.Mathlib.Nat.{zero-add}
 use native.Mathlib.Omega.{arith}
-use borrow.Author.Tests.{lt-ltb, le-ltb, eq-eqb, ne-eqb, ltb-false, eqb-true, not-false}
+use borrow.Author.Tests.{ltb-false, eqb-true, not-false}
 use lib.ListN.{length, getD, drop}
 use lib.Seq.{sets, sets-eq}
 use Rattle.numbers.specs.Fields.{field}
@@ -16,7 +16,7 @@ use Rattle.packets.specs.Reading.{countOf, gatesOf, fieldsRefusal, paddi
 use Rattle.packets.specs.declared.gates.GatesAnswer.{GatesAnswer}
 use Rattle.numbers.proofs.FieldLaws.{field-add, field-lt}
 use Rattle.numbers.proofs.PieceLaws.{length-unpack, length-times}
-use Rattle.packets.proofs.RefusalLaws.{orElse-first, orElse-then, orElse-stop, orElse-go, refuse-none, unless-none, unless-some}
+use Rattle.packets.proofs.RefusalLaws.{orElse-first, orElse-then, orElse-go, ends, refuse-none, unless-none, unless-some}
 use Rattle.packets.proofs.FramingLaws.{Headed, headed}
 use Rattle.packets.proofs.GateLaws.{length-gate}
 
@@ -66,45 +66,13 @@ fields-more distance s p m h =
 
 -- it stops at a gate that is refused, and goes on past one that is not
 pub fields-stop : (distance : ℕ) (s : List ℕ) (p m a : ℕ) → 0 < m → a ≡ gateRefusal (unpack s p (gateWidths distance)) → (a ≡ 0 → ⊥) → a ≡ fieldsRefusal distance s p m
-fields-stop distance s p m a h e ne = e ∙ orElse-stop _ _ (λ z. ne (e ∙ z)) ∙ fields-more distance s p m h
+fields-stop distance s p m a h e ne = ends _ _ e ne ∙ fields-more distance s p m h
 
 pub fields-go : (distance : ℕ) (s : List ℕ) (p m a : ℕ) → 0 < m → a ≡ gateRefusal (unpack s p (gateWidths distance)) → a ≡ 0
     → fieldsRefusal distance s (p + gateBits distance) (m - 1) ≡ fieldsRefusal distance s p m
 fields-go distance s p m a h e z = sym (orElse-go _ _ (sym e ∙ z)) ∙ fields-more distance s p m h
 
--- ---- the order of the rules, a law for each way that it can end
-
-module _ (distance : ℕ) (s : List ℕ) (room : ℕ) where
-  pub bad-head : (a : ℕ) → a ≡ headRefusal s gateType gateType → (a ≡ 0 → ⊥) → a ≡ readRefusal distance s room
-  unfolding readRefusal
-  bad-head a e ne = e ∙ orElse-stop (headRefusal s gateType gateType) _ (λ z. ne (e ∙ z))
-
-  pub bad-length : headRefusal s gateType gateType ≡ 0 → (lengthOf s ≡ sizeOf distance (countOf s) → ⊥) → lengthNotForCount ≡ readRefusal distance s room
-  unfolding readRefusal orElse refuse
-  bad-length h ne = simp (h, ne-eqb (lengthOf s) (sizeOf distance (countOf s)) ne)
-
-  module _ (h : headRefusal s gateType gateType ≡ 0) (l : lengthOf s ≡ sizeOf distance (countOf s)) where
-    pub bad-fields : (a : ℕ) → a ≡ fieldsRefusal distance s 16 (countOf s) → (a ≡ 0 → ⊥) → a ≡ readRefusal distance s room
-    unfolding readRefusal refuse orElse
-    bad-fields a e ne =
-        rw (h, eq-eqb (lengthOf s) (sizeOf distance (countOf s)) l)
-        (e ∙ orElse-stop (fieldsRefusal distance s 16 (countOf s)) _ (λ z. ne (e ∙ z)))
-
-    module _ (f : fieldsRefusal distance s 16 (countOf s) ≡ 0) where
-      pub bad-padding : 0 < paddingOf distance s → paddingSet ≡ readRefusal distance s room
-      unfolding readRefusal orElse refuse
-      bad-padding p = simp (h, eq-eqb (lengthOf s) (sizeOf distance (countOf s)) l, f, lt-ltb 0 (paddingOf distance s) p)
-
-      module _ (p : paddingOf distance s ≤ 0) where
-        pub bad-room : room < gateBytes * countOf s → noRoom ≡ readRefusal distance s room
-        unfolding readRefusal orElse refuse
-        bad-room r =
-            simp (h, eq-eqb (lengthOf s) (sizeOf distance (countOf s)) l, f, le-ltb 0 (paddingOf distance s) p, lt-ltb room (gateBytes * countOf s) r)
-
-        pub may-read : gateBytes * countOf s ≤ room → 0 ≡ readRefusal distance s room
-        unfolding readRefusal orElse refuse
-        may-read r =
-            simp (h, eq-eqb (lengthOf s) (sizeOf distance (countOf s)) l, f, le-ltb 0 (paddingOf distance s) p, le-ltb room (gateBytes * countOf s) r)
+-- ---- the answer and the output
 
 -- a gate read that is not refused
 pub record Gated (distance : ℕ) (s : List ℕ) (room : ℕ) : Type 0 where

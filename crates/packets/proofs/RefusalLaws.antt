@@ -1,10 +1,10 @@
 -- What a chain of grounds tells.
 use mathlib.Core.Path.{_≡_, refl, sym, _∙_}
-use mathlib.Core.Bool.{Bool, true, false}
+use mathlib.Core.Bool.{Bool, true, false, not}
 use Prim.Native.Nat.{ℕ, zero, suc, _≤_, _<_}
 use native.Mathlib.Omega.{arith}
-use borrow.Author.Tests.{lt-ltb, le-ltb}
-use lib.Dec.{ltb}
+use borrow.Author.Tests.{lt-ltb, le-ltb, eq-eqb, ne-eqb}
+use lib.Dec.{ltb, eqb}
 use Rattle.packets.specs.Refusals.{refuse, orElse, unlessRefused}
 
 -- where the chain has no refusal, neither has its first ground, nor what follows
@@ -59,6 +59,15 @@ module _ (a b n : ℕ) where
   pub last-below : a < b → n ≡ refuse (ltb a b) n
   unfolding refuse
   last-below h = rw (lt-ltb a b h)
+
+-- and of one whose test is that two numbers differ
+pub same : (a b n : ℕ) → a ≡ b → refuse (not (eqb a b)) n ≡ 0
+unfolding refuse
+same a b n e = rw (eq-eqb a b e)
+
+pub differ : (a b n rest : ℕ) → (a ≡ b → ⊥) → suc n ≡ orElse (refuse (not (eqb a b)) (suc n)) rest
+unfolding orElse refuse
+differ a b n rest ne = rw (ne-eqb a b ne)
 
 -- what an answer gives where there is no refusal, and where there is one
 pub unless-none : {A : Type 0} (n : ℕ) (a b : A) → n ≡ 0 → unlessRefused n a b ≡ a

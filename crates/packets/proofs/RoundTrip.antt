@@ -5,7 +5,7 @@ use mathlib.Core.List.{List, [], _∷_, _++_}
 use Prim.Native.Nat.{ℕ, zero, suc, _+_, _-_, _*_, _/_, _%_, _^_, _≤_, _<_}
 use native.Mathlib.Nat.{le-trans, mul-le-mul-left}
 use native.Mathlib.Omega.{arith}
-use borrow.Author.Tests.{le-ltb, lt-leb, leb-false}
+use borrow.Author.Tests.{lt-leb, leb-false}
 use lib.ListN.{length, getD, take, drop, length-append, length-drop, take-append-drop}
 use lib.Pow.{pow-pos}
 use lib.Seq.{drop-at, take-at, length-take-le}
@@ -18,10 +18,10 @@ use Rattle.packets.specs.Reading.{countOf, gatesOf, fieldsRefusal, paddi
 use Rattle.packets.specs.Writing.{gatesIn, packetWidths, packetValues, written, widthsRefusal, oneRefusal, listRefusal, writeRefusal, writeAnswer, writeInto}
 use Rattle.numbers.proofs.FieldLaws.{Bytes, field-lt}
 use Rattle.numbers.proofs.PieceLaws.{Fit, none, one, unpack-append, unpack-pack, length-unpack, length-times, length-pack, times-suc, round-trip, pack-past}
-use Rattle.packets.proofs.RefusalLaws.{orElse-first, orElse-then, orElse-go, refuse-none, unless-none}
+use Rattle.packets.proofs.RefusalLaws.{orElse-first, orElse-then, orElse-go, next, same, not-below, last-not-below, refuse-none, unless-none}
 use Rattle.packets.proofs.GateLaws.{length-gate, total-gate, bits-gates}
-use Rattle.packets.proofs.ReadingLaws.{Gated, gated, length-gates, may-read}
-use Rattle.packets.proofs.WritingLaws.{Listed, listed, total-packet, may-write}
+use Rattle.packets.proofs.ReadingLaws.{Gated, gated, length-gates}
+use Rattle.packets.proofs.WritingLaws.{Listed, listed, total-packet}
 
 -- ---- writing what was read
 
@@ -120,6 +120,7 @@ size-mono distance {m} {n} h = omega (arith, mul-le-mul-left (gateBits distance)
 -- and the writer takes what was read, given room
 pub write-accepts : (distance most : ℕ) → Sayable distance most → Full distance most
     → (s : List ℕ) (room more : ℕ) → readRefusal distance s room ≡ 0 → lengthOf s ≤ more → writeRefusal distance most (gatesOf distance s) more ≡ 0
+unfolding writeRefusal
 write-accepts d most ok all s room more e fits =
     let g = gated d s room e in
     let list : List ℕ = gatesOf d s in
@@ -127,7 +128,9 @@ write-accepts d most ok all s room more e fits =
     let right : listRefusal d list (gatesIn list) ≡ 0 = ap (listRefusal d list) en ∙ gates-read d s (ok .wide) ∙ g .fields in
     let size : sizeOf d (gatesIn list) ≡ lengthOf s = ap (sizeOf d) en ∙ sym (g .length-right) in
     let few : gatesIn list ≤ most = all (gatesIn list) (omega (arith, field-lt s 11 5)) (subst (λ (n : ℕ). n ≤ 127) (sym size) (omega (arith, field-lt s 4 7))) in
-    sym (may-write d most list more (omega (arith, length-gates d s)) few right (subst (λ (n : ℕ). n ≤ more) (sym size) fits))
+    sym
+    (not-below 0 (length list % gateBytes) _ _ (omega (arith, length-gates d s))
+    (not-below most (gatesIn list) _ _ few (next _ _ right (last-not-below more (sizeOf d (gatesIn list)) _ (subst (λ (n : ℕ). n ≤ more) (sym size) fits)))))
 
 -- ---- reading what was written
 
@@ -215,14 +218,12 @@ wrote d most ok list o e =
     wrote-parts d list (written d list o) (ok .wide) (omega arith) (values-written d most ok list o g)
 
 head-accepted : (s : List ℕ) → 2 ≤ length s → typeOf s ≡ gateType → 2 ≤ lengthOf s → lengthOf s ≤ length s → headRefusal s gateType gateType ≡ 0
-unfolding headRefusal orElse refuse
+unfolding headRefusal
 head-accepted s two three long whole =
-    simp (
-      le-ltb (length s) 2 two,
-      three,
-      le-ltb (lengthOf s) 2 long,
-      le-ltb (length s) (lengthOf s) whole,
-    )
+    sym
+    (not-below (length s) 2 _ _ two
+    (not-below (typeOf s) gateType _ _ (omega arith)
+    (not-below gateType (typeOf s) _ _ (omega arith) (not-below (lengthOf s) 2 _ _ long (last-not-below (length s) (lengthOf s) _ whole)))))
 
 length-written : (distance : ℕ) (list o : List ℕ) → length (written distance list o) ≡ length o
 unfolding written
@@ -232,6 +233,7 @@ length-written distance list o = length-pack o 0 _ _
 pub read-accepts : (distance most : ℕ) → Sayable distance most
     → (list o : List ℕ) (room : ℕ) → writeRefusal distance most list (length o) ≡ 0 → length list ≤ room
     → readRefusal distance (written distance list o) room ≡ 0
+unfolding readRefusal
 read-accepts d most ok list o room e fits =
     let s : List ℕ = written d list o in
     let g = listed d most list (length o) e in
@@ -240,12 +242,10 @@ read-accepts d most ok list o room e fits =
     let fields : fieldsRefusal d s 16 (countOf s) ≡ 0 =
     sym (gates-read d s (ok .wide)) ∙ ap₂ (listRefusal d) (w .gates) (w .counted) ∙ g .right in
     sym
-    (may-read d s room
-    (head-accepted s (omega arith) (w .typed) (omega arith) (omega arith))
-    (w .sized ∙ ap (sizeOf d) (sym (w .counted)))
-    fields
-    (omega arith)
-    (omega arith))
+    (next _ _ (head-accepted s (omega arith) (w .typed) (omega arith) (omega arith))
+    (next _ _ (same _ _ _ (w .sized ∙ ap (sizeOf d) (sym (w .counted))))
+    (next _ _ fields
+    (not-below 0 (paddingOf d s) _ _ (omega arith) (last-not-below room (gateBytes * countOf s) _ (omega arith))))))
 
 -- so TWO ACCEPTED SUB-PACKETS with the same gates are the same bytes
 pub one-reading : (distance : ℕ) (s t : List ℕ) (room more : ℕ) → 8 ≤ distance → Bytes s → Bytes t

@@ -5,7 +5,7 @@ use Prim.Native.Nat.{ℕ, zero, suc, _+_, _-_, _*_, _/_, _%_, _^_, _≤_, _<_}
 use native.Mathlib.Nat.{add-zero, add-assoc}
 use native.Mathlib.Omega.{arith}
 use native.Mathlib.Numerals.{add-one}
-use borrow.Author.Tests.{le-ltb, lt-ltb, lt-leb, le-leb, ltb-false}
+use borrow.Author.Tests.{lt-leb, le-leb, ltb-false}
 use lib.ListN.{length, getD, drop}
 use lib.Seq.{drop-at, drop-cons, drop-drop, getD-drop}
 use Rattle.numbers.specs.Fields.{put}
@@ -18,7 +18,7 @@ use Rattle.packets.specs.declared.gates.GatesAnswer.{GatesAnswer}
 use Rattle.numbers.proofs.FieldLaws.{Bytes}
 use Rattle.numbers.proofs.NumberLaws.{number-byte, number-pair}
 use Rattle.numbers.proofs.PieceLaws.{total-append, length-times, pack-append, pack-extra}
-use Rattle.packets.proofs.RefusalLaws.{orElse-first, orElse-then, orElse-stop, orElse-go, refuse-none, unless-none, unless-some}
+use Rattle.packets.proofs.RefusalLaws.{orElse-first, orElse-then, orElse-go, ends, refuse-none, unless-none, unless-some}
 use Rattle.packets.proofs.GateLaws.{length-gate, bits-gates}
 
 -- a whole sub-packet takes whole bytes
@@ -70,41 +70,11 @@ list-more distance list i m h =
     ∙ ap (listRefusal distance (drop i list)) e
 
 pub list-stop : (distance : ℕ) (list : List ℕ) (i m a : ℕ) → 0 < m → a ≡ oneRefusal distance (drop i list) → (a ≡ 0 → ⊥) → a ≡ listRefusal distance (drop i list) m
-list-stop distance list i m a h e ne = e ∙ orElse-stop _ _ (λ z. ne (e ∙ z)) ∙ list-more distance list i m h
+list-stop distance list i m a h e ne = ends _ _ e ne ∙ list-more distance list i m h
 
 pub list-go : (distance : ℕ) (list : List ℕ) (i m a : ℕ) → 0 < m → a ≡ oneRefusal distance (drop i list) → a ≡ 0
     → listRefusal distance (drop (i + gateBytes) list) (m - 1) ≡ listRefusal distance (drop i list) m
 list-go distance list i m a h e z = sym (orElse-go _ _ (sym e ∙ z)) ∙ list-more distance list i m h
-
--- ---- the order of the rules, a law for each way that it can end
-
-module _ (distance most : ℕ) (list : List ℕ) (room : ℕ) where
-  pub not-whole : 0 < length list % gateBytes → notWholeGates ≡ writeRefusal distance most list room
-  unfolding writeRefusal orElse refuse
-  not-whole h = simp (lt-ltb 0 (length list % gateBytes) h)
-
-  module _ (h : length list % gateBytes ≤ 0) where
-    pub too-many : most < gatesIn list → tooManyGates ≡ writeRefusal distance most list room
-    unfolding writeRefusal orElse refuse
-    too-many l = simp (le-ltb 0 (length list % gateBytes) h, lt-ltb most (gatesIn list) l)
-
-    module _ (l : gatesIn list ≤ most) where
-      pub bad-list : (a : ℕ) → a ≡ listRefusal distance list (gatesIn list) → (a ≡ 0 → ⊥) → a ≡ writeRefusal distance most list room
-      unfolding writeRefusal orElse refuse
-      bad-list a e ne =
-          rw (le-ltb 0 (length list % gateBytes) h, le-ltb most (gatesIn list) l)
-          (e ∙ orElse-stop (listRefusal distance list (gatesIn list)) _ (λ z. ne (e ∙ z)))
-
-      module _ (f : listRefusal distance list (gatesIn list) ≡ 0) where
-        pub room-short : room < sizeOf distance (gatesIn list) → noRoom ≡ writeRefusal distance most list room
-        unfolding writeRefusal orElse refuse
-        room-short r =
-            simp (le-ltb 0 (length list % gateBytes) h, le-ltb most (gatesIn list) l, f, lt-ltb room (sizeOf distance (gatesIn list)) r)
-
-        pub may-write : sizeOf distance (gatesIn list) ≤ room → 0 ≡ writeRefusal distance most list room
-        unfolding writeRefusal orElse refuse
-        may-write r =
-            simp (le-ltb 0 (length list % gateBytes) h, le-ltb most (gatesIn list) l, f, le-ltb room (sizeOf distance (gatesIn list)) r)
 
 -- a gate write that is not refused
 pub record Listed (distance most : ℕ) (list : List ℕ) (room : ℕ) : Type 0 where

@@ -1,12 +1,15 @@
 -- `packets::gates::reading::read_refusal` meets its contract: what the code has learnt at each step, and then the law for each way out.
-use Prim.Native.Nat.{ℕ, _+_, _-_, _*_, _/_}
-use mathlib.Core.Path.{_≡_, sym, ap, _∙_}
+use Prim.Native.Nat.{ℕ, _+_, _-_, _*_, _/_, _<_}
+use mathlib.Core.Path.{_≡_, sym, ap, _∙_, subst}
+use mathlib.Core.Bool.{not}
+use lib.Dec.{eqb}
+use Rattle.packets.specs.Refusals.{lengthNotForCount, refuse, orElse}
 use native.Mathlib.Omega.{arith}
 use Rattle.numbers.specs.Fields.{field}
 use Rattle.packets.specs.Framing.{lengthOf, headRefusal}
-use Rattle.packets.specs.Gates.{gateType, bitsOf, sizeOf}
-use Rattle.packets.specs.Reading.{countOf, fieldsRefusal, paddingOf}
-use Rattle.packets.proofs.ReadingLaws.{bad-head, bad-length, bad-fields, bad-padding, bad-room, may-read}
+use Rattle.packets.specs.Gates.{gateType, gateBytes, bitsOf, sizeOf}
+use Rattle.packets.specs.Reading.{countOf, fieldsRefusal, paddingOf, readRefusal}
+use Rattle.packets.proofs.RefusalLaws.{next, ends, same, differ, not-below, below, last-not-below, last-below}
 use borrow.Author.Needs.{needs}
 use Rattle.packets.proofs.gates.reading.read_refusal.Statement.{statement}
 use Rattle.packets.proofs.gates.reading.read_refusal.Tie as tie
@@ -27,30 +30,49 @@ fields-eq c = c .fields-refusal .ensures ∙ ap (fieldsRefusal (c .before .befor
 padding-eq : (c : tie.After-read-field) → c .read-field .result ≡ paddingOf (c .before .before .before .before .before .before .before .before .before .before .args .distance) (c .before .before .before .before .before .before .before .before .before .before .args .s .now)
 padding-eq c = c .read-field .ensures ∙ ap (λ (b : ℕ). field (c .before .before .before .before .before .before .before .before .before .before .args .s .now) b (8 * ((b + 7) / 8) - b)) (bits-eq (c .before .before .before .before .before))
 
+-- past the gates: what follows, the padding and the room, decides
+gates-passed : (c : tie.Else3) (rest : ℕ) {x : ℕ} → x ≡ rest
+    → x
+    ≡ orElse (headRefusal (c .before .before .before .before .before .before .before .before .before .args .s .now) gateType gateType)
+    (orElse (refuse (not (eqb (lengthOf (c .before .before .before .before .before .before .before .before .before .args .s .now)) (sizeOf (c .before .before .before .before .before .before .before .before .before .args .distance) (countOf (c .before .before .before .before .before .before .before .before .before .args .s .now))))) lengthNotForCount)
+    (orElse (fieldsRefusal (c .before .before .before .before .before .before .before .before .before .args .distance) (c .before .before .before .before .before .before .before .before .before .args .s .now) 16 (countOf (c .before .before .before .before .before .before .before .before .before .args .s .now))) rest))
+gates-passed c rest e =
+    next _ _ (head-zero (c .before .before .before .before .before .before))
+    (next _ _ (same _ _ _ (length-eq (c .before .before))) (next _ _ (sym (fields-eq (c .before)) ∙ c .if3 .left) e))
+
 returns : tie.Need-returns
-returns c = let a = c .before .before .before .args in
-    bad-head (a .distance) (a .s .now) (a .room) (c .before .head-refusal .result) (c .before .head-refusal .ensures) (c .if1 .taken)
+unfolding readRefusal
+returns c = ends _ _ (c .before .head-refusal .ensures) (c .if1 .taken)
 
 returns-2 : tie.Need-returns-2
-returns-2 c = let a = c .before .before .before .before .before .before .before .args in
-    bad-length (a .distance) (a .s .now) (a .room) (head-zero (c .before .before .before .before))
-    (λ e. c .if2 .taken (c .before .length-of .ensures .0 ∙ e ∙ ap (λ (b : ℕ). (b + 7) / 8) (sym (bits-eq (c .before .before)))))
+unfolding readRefusal
+returns-2 c =
+    next _ _ (head-zero (c .before .before .before .before))
+    (differ _ _ _ _ (λ e. c .if2 .taken (c .before .length-of .ensures .0 ∙ e ∙ ap (λ (b : ℕ). (b + 7) / 8) (sym (bits-eq (c .before .before))))))
 
 returns-3 : tie.Need-returns-3
-returns-3 c = let a = c .before .before .before .before .before .before .before .before .before .args in
-    bad-fields (a .distance) (a .s .now) (a .room) (head-zero (c .before .before .before .before .before .before)) (length-eq (c .before .before)) (c .before .fields-refusal .result) (fields-eq (c .before)) (c .if3 .taken)
+unfolding readRefusal
+returns-3 c =
+    next _ _ (head-zero (c .before .before .before .before .before .before))
+    (next _ _ (same _ _ _ (length-eq (c .before .before))) (ends _ _ (fields-eq (c .before)) (c .if3 .taken)))
 
 returns-4 : tie.Need-returns-4
-returns-4 c = let a = c .before .before .before .before .before .before .before .before .before .before .before .args in
-    bad-padding (a .distance) (a .s .now) (a .room) (head-zero (c .before .before .before .before .before .before .before .before)) (length-eq (c .before .before .before .before)) (sym (fields-eq (c .before .before .before)) ∙ c .before .before .if3 .left) (omega (arith, padding-eq (c .before)))
+unfolding readRefusal
+returns-4 c = gates-passed (c .before .before) _ (below _ _ _ _ (subst (λ (n : ℕ). 0 < n) (padding-eq (c .before)) (c .if4 .taken)))
 
 returns-5 : tie.Need-returns-5
+unfolding readRefusal
 returns-5 c = let a = c .before .before .before .before .before .before .before .before .before .before .before .before .args in
-    bad-room (a .distance) (a .s .now) (a .room) (head-zero (c .before .before .before .before .before .before .before .before .before)) (length-eq (c .before .before .before .before .before)) (sym (fields-eq (c .before .before .before .before)) ∙ c .before .before .before .if3 .left) (omega (arith, padding-eq (c .before .before))) (omega arith)
+    gates-passed (c .before .before .before) _
+    (not-below 0 (paddingOf (a .distance) (a .s .now)) _ _ (omega (arith, padding-eq (c .before .before)))
+    (last-below (a .room) (gateBytes * countOf (a .s .now)) _ (omega arith)))
 
 returns-6 : tie.Need-returns-6
+unfolding readRefusal
 returns-6 c = let a = c .before .before .before .before .before .before .before .before .before .before .before .before .args in
-    may-read (a .distance) (a .s .now) (a .room) (head-zero (c .before .before .before .before .before .before .before .before .before)) (length-eq (c .before .before .before .before .before)) (sym (fields-eq (c .before .before .before .before)) ∙ c .before .before .before .if3 .left) (omega (arith, padding-eq (c .before .before))) (omega arith)
+    gates-passed (c .before .before .before) _
+    (not-below 0 (paddingOf (a .distance) (a .s .now)) _ _ (omega (arith, padding-eq (c .before .before)))
+    (last-not-below (a .room) (gateBytes * countOf (a .s .now)) _ (omega arith)))
 
 pub read-refusal-spec : {M : Type 1} → statement M
 read-refusal-spec =

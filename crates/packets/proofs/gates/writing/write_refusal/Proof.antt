@@ -1,33 +1,50 @@
 -- `packets::gates::writing::write_refusal` meets its contract: the law for each way out.
-use mathlib.Core.Path.{sym, _∙_}
+use Prim.Native.Nat.{ℕ, _%_}
+use mathlib.Core.Path.{_≡_, sym, _∙_}
+use lib.Dec.{ltb}
+use lib.ListN.{length}
 use native.Mathlib.Omega.{arith}
-use Rattle.packets.proofs.WritingLaws.{not-whole, too-many, bad-list, room-short, may-write}
+use Rattle.packets.specs.Refusals.{notWholeGates, tooManyGates, refuse, orElse}
+use Rattle.packets.specs.Gates.{gateBytes, sizeOf}
+use Rattle.packets.specs.Writing.{gatesIn, listRefusal, writeRefusal}
+use Rattle.packets.proofs.RefusalLaws.{next, ends, not-below, below, last-not-below, last-below}
 use borrow.Author.Needs.{needs}
 use Rattle.packets.proofs.gates.writing.write_refusal.Statement.{statement}
 use Rattle.packets.proofs.gates.writing.write_refusal.Tie as tie
 
+-- past the gates: the room decides
+gates-passed : (c : tie.Else3) (rest : ℕ) {x : ℕ} → x ≡ rest
+    → x
+    ≡ orElse (refuse (ltb 0 (length (c .before .before .before .before .before .args .list .now) % gateBytes)) notWholeGates)
+    (orElse (refuse (ltb (c .before .before .before .before .before .args .most) (gatesIn (c .before .before .before .before .before .args .list .now))) tooManyGates)
+    (orElse (listRefusal (c .before .before .before .before .before .args .distance) (c .before .before .before .before .before .args .list .now) (gatesIn (c .before .before .before .before .before .args .list .now))) rest))
+gates-passed c rest e =
+    not-below _ _ _ _ (c .before .before .before .if1 .left)
+    (not-below _ _ _ _ (c .before .before .if2 .left) (next _ _ (sym (c .before .list-refusal .ensures) ∙ c .if3 .left) e))
+
 returns : tie.Need-returns
-returns c = let a = c .before .before .args in
-    not-whole (a .distance) (a .most) (a .list .now) (a .room) (c .if1 .taken)
+unfolding writeRefusal
+returns c = below _ _ _ _ (c .if1 .taken)
 
 returns-2 : tie.Need-returns-2
-returns-2 c = let a = c .before .before .before .args in
-    too-many (a .distance) (a .most) (a .list .now) (a .room) (omega arith) (c .if2 .taken)
+unfolding writeRefusal
+returns-2 c = not-below _ _ _ _ (c .before .if1 .left) (below _ _ _ _ (c .if2 .taken))
 
 returns-3 : tie.Need-returns-3
-returns-3 c = let a = c .before .before .before .before .before .args in
-    let called = c .before .list-refusal in
-    bad-list (a .distance) (a .most) (a .list .now) (a .room) (omega arith) (omega arith) (called .result) (called .ensures) (c .if3 .taken)
+unfolding writeRefusal
+returns-3 c =
+    not-below _ _ _ _ (c .before .before .before .if1 .left)
+    (not-below _ _ _ _ (c .before .before .if2 .left) (ends _ _ (c .before .list-refusal .ensures) (c .if3 .taken)))
 
 returns-4 : tie.Need-returns-4
+unfolding writeRefusal
 returns-4 c = let a = c .before .before .before .before .before .before .before .args in
-    room-short (a .distance) (a .most) (a .list .now) (a .room) (omega arith) (omega arith) (sym (c .before .before .before .list-refusal .ensures) ∙ c .before .before .if3 .left)
-    (omega (arith, c .before .bits-of .ensures .0))
+    gates-passed (c .before .before) _ (last-below (a .room) (sizeOf (a .distance) (gatesIn (a .list .now))) _ (omega (arith, c .before .bits-of .ensures .0)))
 
 returns-5 : tie.Need-returns-5
+unfolding writeRefusal
 returns-5 c = let a = c .before .before .before .before .before .before .before .args in
-    may-write (a .distance) (a .most) (a .list .now) (a .room) (omega arith) (omega arith) (sym (c .before .before .before .list-refusal .ensures) ∙ c .before .before .if3 .left)
-    (omega (arith, c .before .bits-of .ensures .0))
+    gates-passed (c .before .before) _ (last-not-below (a .room) (sizeOf (a .distance) (gatesIn (a .list .now))) _ (omega (arith, c .before .bits-of .ensures .0)))
 
 pub write-refusal-spec : {M : Type 1} → statement M
 write-refusal-spec =
