@@ -1,5 +1,4 @@
 -- The grounds of refusal: what numbers that are not refused have, and the frame age on either side of them.
---
 use mathlib.Core.Path.{_≡_}
 use mathlib.Core.Bool.{true, false, _||_}
 use Prim.Native.Nat.{ℕ, _≤_}

@@ -1,5 +1,4 @@
 -- What the mode step (`nextStep`) promises, law by law. Each law speaks of every number as the mode and all bytes as the flags.
---
 use mathlib.Core.Path.{_≡_, refl, ap, _∙_, sym}
 use mathlib.Core.Bool.{Bool, true, false}
 use mathlib.Core.List.{List, [], List·Memᴰ}

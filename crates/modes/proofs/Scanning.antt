@@ -1,5 +1,4 @@
 -- A walk over the flags, and one over the conditions of a transition.
---
 use mathlib.Core.Path.{_≡_}
 use mathlib.Core.Bool.{true, false}
 use mathlib.Core.List.{List}

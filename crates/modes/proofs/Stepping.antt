@@ -1,5 +1,4 @@
 -- The mode step: what input that is not refused gives a walk, and what the walk over a mode's transitions gives the step.
---
 use mathlib.Core.Path.{_≡_, ap, _∙_, sym}
 use mathlib.Core.Bool.{true, false, _&&_, _||_}
 use mathlib.Core.List.{List}

@@ -1,5 +1,4 @@
 -- A walk over the table, as the code takes it from transition to transition.
---
 use mathlib.Core.Path.{_≡_, ap, _∙_, sym}
 use mathlib.Core.Bool.{true, false, cond}
 use mathlib.Core.List.{List, [], _∷_, _++_}

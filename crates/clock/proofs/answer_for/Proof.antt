@@ -1,5 +1,4 @@
 -- `clock::answer_for` meets its contract.
---
 use Rattle.clock.specs.Age.{aged}
 use borrow.Author.Needs.{needs}
 use Rattle.clock.proofs.answer_for.Statement.{statement}

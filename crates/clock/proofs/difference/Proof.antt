@@ -1,5 +1,4 @@
 -- `clock::difference` meets its contract.
---
 use mathlib.Core.Path.{refl}
 use native.Mathlib.Omega.{arith}
 use Rattle.clock.specs.Age.{difference}

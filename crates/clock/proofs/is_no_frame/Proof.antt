@@ -1,5 +1,4 @@
 -- `clock::is_no_frame` meets its contract, a case for each test.
---
 use borrow.Author.Tests.{le-ltb, lt-ltb}
 use Rattle.clock.specs.Age.{notAFrame}
 use Rattle.clock.proofs.is_no_frame.Statement.{statement}

@@ -1,5 +1,4 @@
 -- `modes::consider` meets its contract: the transition is open, or it is not.
---
 use mathlib.Core.Path.{ap, _∙_, sym}
 use lib.ListN.{getD}
 use borrow.Author.Needs.{needs}
@@ -7,24 +6,6 @@ use Rattle.modes.specs.Kept.{kept}
 use Rattle.modes.proofs.Walking.{considered-open, considered-shut}
 use Rattle.modes.proofs.consider.Statement.{statement}
 use Rattle.modes.proofs.consider.Tie as tie
-
-is-open-requires : tie.Need-is-open-requires
-is-open-requires c κs = search needs
-
-element-copy-out-number : tie.Need-element-copy-out-number
-element-copy-out-number c = search needs
-
-number-requires : tie.Need-number-requires
-number-requires c κs = search needs
-
-element-copy-out-number-2 : tie.Need-element-copy-out-number-2
-element-copy-out-number-2 c = search needs
-
-number-requires-2 : tie.Need-number-requires-2
-number-requires-2 c κs = search needs
-
-keep-requires : tie.Need-keep-requires
-keep-requires c κs = search needs
 
 returns : tie.Need-returns
 returns c =
@@ -41,11 +22,5 @@ pub consider-spec : {M : Type 1} → statement M
 consider-spec =
     tie.close
     (tie.spec
-    is-open-requires
-    element-copy-out-number
-    number-requires
-    element-copy-out-number-2
-    number-requires-2
-    keep-requires
-    returns
-    returns-2)
+    (λ c κs. search needs) (λ c. search needs) (λ c κs. search needs) (λ c. search needs) (λ c κs. search needs)
+    (λ c κs. search needs) returns returns-2)

@@ -1,5 +1,4 @@
 -- `modes::keep` meets its contract, a case for each way through the tests.
---
 use mathlib.Core.Path.{_∙_}
 use Prim.Native.Nat.{_≤_}
 use native.Mathlib.Nat.{min-eq-left, min-eq-right}
@@ -10,29 +9,17 @@ use borrow.Author.Needs.{needs}
 use Rattle.modes.proofs.keep.Statement.{statement}
 use Rattle.modes.proofs.keep.Tie as tie
 
-accept-requires : tie.Need-accept-requires
-accept-requires c κs = search needs
-
 returns : tie.Need-returns
 unfolding kept
 returns c = c .accept .ensures ∙ simp (eq-eqb _ _ (c .before .if1 .taken))
-
-accept-requires-2 : tie.Need-accept-requires-2
-accept-requires-2 c κs = search needs
 
 returns-2 : tie.Need-returns-2
 unfolding kept
 returns-2 c = c .accept2 .ensures ∙ simp (ne-eqb _ _ (c .before .before .before .if1 .left), lt-ltb _ _ (c .before .if2 .taken))
 
-accept-requires-3 : tie.Need-accept-requires-3
-accept-requires-3 c κs = search needs
-
 returns-3 : tie.Need-returns-3
 unfolding kept
 returns-3 c = c .accept3 .ensures ∙ simp (ne-eqb _ _ (c .before .before .before .before .before .before .before .if1 .left), le-ltb _ _ (c .before .before .before .before .before .if2 .left), eq-eqb _ _ (c .before .before .before .if3 .taken), min-eq-left (c .before .if4 .taken))
-
-accept-requires-4 : tie.Need-accept-requires-4
-accept-requires-4 c κs = search needs
 
 returns-4 : tie.Need-returns-4
 unfolding kept
@@ -49,12 +36,5 @@ pub keep-spec : {M : Type 1} → statement M
 keep-spec =
     tie.close
     (tie.spec
-    accept-requires
-    returns
-    accept-requires-2
-    returns-2
-    accept-requires-3
-    returns-3
-    accept-requires-4
-    returns-4
-    returns-5)
+    (λ c κs. search needs) returns (λ c κs. search needs) returns-2 (λ c κs. search needs) returns-3
+    (λ c κs. search needs) returns-4 returns-5)

@@ -1,5 +1,4 @@
 -- `modes::next_mode` meets its contract: the transitions of the mode stand from one start to the next.
---
 use mathlib.Core.Path.{_∙_, sym}
 use Prim.Native.Nat.{_+_}
 use native.Mathlib.Omega.{arith}
@@ -9,9 +8,6 @@ use Rattle.modes.proofs.Stepping.{Taken, taken, next-refused, next-walk
 use Rattle.modes.proofs.next_mode.Statement.{statement}
 use Rattle.modes.proofs.next_mode.Tie as tie
 
-is-refused-requires : tie.Need-is-refused-requires
-is-refused-requires c κs = search needs
-
 returns : tie.Need-returns
 returns c = next-refused _ _ (sym (c .before .is-refused .ensures) ∙ c .if1 .taken)
 
@@ -19,17 +15,8 @@ returns c = next-refused _ _ (sym (c .before .is-refused .ensures) ∙ c .if1 .t
 passed : (c : tie.Else1) → Taken (c .before .before .before .args .mode) (c .before .before .before .args .flags .now)
 passed c = taken _ _ (sym (c .before .is-refused .ensures) ∙ c .if1 .left)
 
-all-requires : tie.Need-all-requires
-all-requires c κs = search needs
-
-first-requires : tie.Need-first-requires
-first-requires c κs = search needs
-
 add-first : tie.Need-add-first
 add-first c = omega (arith, passed (c .before .before .before))
-
-first-requires-2 : tie.Need-first-requires-2
-first-requires-2 c κs = search needs
 
 walk-requires : tie.Need-walk-requires
 walk-requires c κs =
@@ -49,11 +36,5 @@ pub next-mode-spec : {M : Type 1} → statement M
 next-mode-spec =
     tie.close
     (tie.spec
-    is-refused-requires
-    returns
-    all-requires
-    first-requires
-    add-first
-    first-requires-2
-    walk-requires
-    returns-2)
+    (λ c κs. search needs) returns (λ c κs. search needs) (λ c κs. search needs) add-first (λ c κs. search needs)
+    walk-requires returns-2)

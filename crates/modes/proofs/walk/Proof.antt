@@ -1,5 +1,4 @@
 -- `modes::walk` meets its contract. The loop's invariant: the best so far is the choice among the transitions passed.
---
 use mathlib.Core.Path.{_≡_, _∙_}
 use Prim.Native.Nat.{_≤_, _-_}
 use native.Mathlib.Omega.{arith}
@@ -17,28 +16,13 @@ Inv-loop flags held mode start end best₀ t₀ best t = (start ≤ t) × (t ≤
 abbrev μ-loop : tie.MeasureT-loop
 μ-loop flags held mode start end best₀ t₀ best t = end - t
 
-accept-requires : tie.Need-accept-requires Inv-loop μ-loop
-accept-requires c κs = search needs
-
 loop-holds : tie.Need-loop-holds Inv-loop μ-loop
 loop-holds c =
     let a = c .before .before .args in
     (omega arith, omega arith, c .accept .ensures ∙ walk-none (a .flags .now) (a .mode) (a .start))
 
-mul-transition : tie.Need-mul-transition Inv-loop μ-loop
-mul-transition c = omega arith
-
-element-copy-out-transition : tie.Need-element-copy-out-transition Inv-loop μ-loop
-element-copy-out-transition c = omega arith
-
 consider-requires : tie.Need-consider-requires Inv-loop μ-loop
 consider-requires c κs = lent-wide _ (c .before .before .before .before .before .before .pre .0) (c .before .before .before .loop .t) (omega arith)
-
-add-t : tie.Need-add-t Inv-loop μ-loop
-add-t c = omega arith
-
-loop-less : tie.Need-loop-less Inv-loop μ-loop
-loop-less c = omega arith
 
 loop-again : tie.Need-loop-again Inv-loop μ-loop
 loop-again c =
@@ -55,14 +39,5 @@ pub walk-spec : {M : Type 1} → statement M
 walk-spec =
     tie.close
     (tie.spec
-    Inv-loop
-    μ-loop
-    accept-requires
-    loop-holds
-    mul-transition
-    element-copy-out-transition
-    consider-requires
-    add-t
-    loop-less
-    loop-again
-    returns)
+    Inv-loop μ-loop (λ c κs. search needs) loop-holds (λ c. omega arith) (λ c. omega arith) consider-requires
+    (λ c. omega arith) (λ c. omega arith) loop-again returns)

@@ -23,12 +23,6 @@ mul-v c =
     let a = c .before .before .before .args in
     omega (arith, field-small (a .s .now) (a .at) (c .before .loop .i) 32 (omega arith))
 
-add-bit-at : tie.Need-add-bit-at Inv-loop μ-loop
-add-bit-at c = search needs
-
-bit-at-requires : tie.Need-bit-at-requires Inv-loop μ-loop
-bit-at-requires c κs = search needs
-
 add-v : tie.Need-add-v Inv-loop μ-loop
 add-v c =
     let a = c .before .before .before .before .args in
@@ -37,12 +31,6 @@ add-v c =
       field-small (a .s .now) (a .at) (c .before .before .loop .i) 32 (omega arith),
       bit-lt (a .s .now) (a .at + c .before .before .loop .i),
     )
-
-add-i : tie.Need-add-i Inv-loop μ-loop
-add-i c = search needs
-
-loop-less : tie.Need-loop-less Inv-loop μ-loop
-loop-less c = search needs
 
 loop-again : tie.Need-loop-again Inv-loop μ-loop
 loop-again c = (
@@ -59,14 +47,5 @@ pub read-field-spec : {M : Type 1} → statement M
 read-field-spec =
     tie.close
     (tie.spec
-    Inv-loop
-    μ-loop
-    loop-holds
-    mul-v
-    add-bit-at
-    bit-at-requires
-    add-v
-    add-i
-    loop-less
-    loop-again
-    returns)
+    Inv-loop μ-loop loop-holds mul-v (λ c. search needs) (λ c κs. search needs) add-v (λ c. search needs)
+    (λ c. search needs) loop-again returns)

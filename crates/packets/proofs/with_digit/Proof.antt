@@ -29,9 +29,6 @@ small c =
     let a = c .before .args in
     bound (a .x) (a .k) (a .b) (c .weight .result) (c .weight .ensures) (search needs) (search needs) (omega arith)
 
-weight-requires : tie.Need-weight-requires
-weight-requires c κs = search needs
-
 div-result : tie.Need-div-result
 div-result c = omega (arith, positive 0 (c .before .args .k) 0 (c .weight .result) (c .weight .ensures))
 
@@ -62,12 +59,4 @@ pub with-digit-spec : {M : Type 1} → statement M
 with-digit-spec =
     tie.close
     (tie.spec
-    weight-requires
-    div-result
-    mul-result
-    add-result
-    mul-result-2
-    rem-result
-    add-result-2
-    cast-result
-    returns)
+    (λ c κs. search needs) div-result mul-result add-result mul-result-2 rem-result add-result-2 cast-result returns)
