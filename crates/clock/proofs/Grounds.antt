@@ -3,7 +3,7 @@ use mathlib.Core.Path.{_≡_}
 use mathlib.Core.Bool.{true, false, _||_}
 use Prim.Native.Nat.{ℕ, _≤_}
 use borrow.Author.Tests.{ltb-false}
-use Rattle.numbers.proofs.Logic.{neither-right}
+use Rattle.numbers.proofs.Logic.{neither}
 use Rattle.clock.specs.Age.{notAFrame, stationBelow, ageOf, aged, refused, refuses, frameAge}
 
 module _ (station onboard : ℕ) where
@@ -11,7 +11,7 @@ module _ (station onboard : ℕ) where
   unfolding refuses stationBelow
   not-below e =
       ltb-false station onboard
-      (neither-right (notAFrame onboard) (stationBelow station onboard) (neither-right (notAFrame station) (notAFrame onboard || stationBelow station onboard) e))
+      (neither (notAFrame onboard) (stationBelow station onboard) (neither (notAFrame station) (notAFrame onboard || stationBelow station onboard) e .1) .1)
 
   pub age-refused : refuses station onboard ≡ true → refused ≡ frameAge station onboard
   unfolding frameAge

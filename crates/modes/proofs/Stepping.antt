@@ -10,7 +10,7 @@ use borrow.Author.Tests.{leb-true, eqb-true, not-false}
 use Rattle.transitions.specs.Names.{SB, IS}
 use Rattle.transitions.specs.Table.{Transition, table, those}
 use Rattle.transitions.specs.Held.{firstOf}
-use Rattle.numbers.proofs.Logic.{both-left, both-right, neither-left, neither-right}
+use Rattle.numbers.proofs.Logic.{both, neither}
 use Rattle.transitions.proofs.Held.{line}
 use Rattle.modes.specs.Flags.{flagCount, wrongCount, flagAboveOne}
 use Rattle.modes.specs.Next.{isOpen, opens, choose, modeOutOfRange, refuses, refused, nextStep}
@@ -24,11 +24,11 @@ pub record Taken (m : ℕ) (fs : List ℕ) : Type 0 where
 pub taken : (m : ℕ) (fs : List ℕ) → refuses m fs ≡ false → Taken m fs
 unfolding refuses
 taken m fs e =
-    let mode = not-false (leb SB m && leb m IS) (neither-left (modeOutOfRange m) (wrongCount fs || flagAboveOne fs) e) in
-    let flags = neither-left (wrongCount fs) (flagAboveOne fs) (neither-right (modeOutOfRange m) (wrongCount fs || flagAboveOne fs) e) in
+    let mode = not-false (leb SB m && leb m IS) (neither (modeOutOfRange m) (wrongCount fs || flagAboveOne fs) e .0) in
+    let flags = neither (wrongCount fs) (flagAboveOne fs) (neither (modeOutOfRange m) (wrongCount fs || flagAboveOne fs) e .1) .0 in
     record {
-      low = leb-true SB m (both-left (leb SB m) (leb m IS) mode);
-      high = leb-true m IS (both-right (leb SB m) (leb m IS) mode);
+      low = leb-true SB m (both (leb SB m) (leb m IS) mode .0);
+      high = leb-true m IS (both (leb SB m) (leb m IS) mode .1);
       count = eqb-true (length fs) flagCount (not-false (eqb (length fs) flagCount) flags);
     }
 

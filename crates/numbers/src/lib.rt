@@ -1,5 +1,6 @@
 // Numbers of 1, 2 and 4 bytes that start at byte i, high byte first, read and put directly. A byte past the end reads as 0, and one that
-// would be put there is dropped. What they mean is a field at a bit position, which `specs` says for every width.
+// would be put there is dropped. What they mean is a field at a bit position, which `specs` says for every width. At the end, two small functions
+// on numbers that several crates need.
 ghost use mathlib.Core.Path.{_≡_};
 ghost use Prim.Native.Nat.{_%_, min};
 ghost use Rattle.numbers.specs.Numbers.{numberAt, putNumber, oneIf};

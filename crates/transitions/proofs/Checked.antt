@@ -9,7 +9,7 @@ use lib.ListN.{length}
 use borrow.Author.Tests.{leb-true, eqb-true, eqb-false, not-true, eq-eqb}
 use Rattle.transitions.specs.Names.{SB, IS}
 use Rattle.transitions.specs.Table.{Transition, transitionCount, conditionCount, table, those}
-use Rattle.numbers.proofs.Logic.{both-left, both-right}
+use Rattle.numbers.proofs.Logic.{both}
 use Rattle.transitions.proofs.Members.{of-those, all, each}
 
 -- is a number from a to b?
@@ -17,7 +17,7 @@ abbrev pub within : ℕ → ℕ → ℕ → Bool
 within a b n = leb a n && leb n b
 
 within-true : (a b n : ℕ) → within a b n ≡ true → (a ≤ n) × (n ≤ b)
-within-true a b n e = (leb-true a n (both-left (leb a n) (leb n b) e), leb-true n b (both-right (leb a n) (leb n b) e))
+within-true a b n e = (leb-true a n (both (leb a n) (leb n b) e .0), leb-true n b (both (leb a n) (leb n b) e .1))
 
 -- does a transition have a priority from 1 to 9, a target that is a mode and not the one it leaves, and conditions that there are?
 abbrev pub sound : Transition → Bool
@@ -55,13 +55,13 @@ checked a e =
     let target = within SB IS (a .target) in
     let moves = not (eqb (a .target) (a .leaves)) in
     let conditions = all (within 1 conditionCount) (a .conditions) in
-    let after-priority = both-right priority (target && (moves && conditions)) e in
-    let after-target = both-right target (moves && conditions) after-priority in
+    let after-priority = both priority (target && (moves && conditions)) e .1 in
+    let after-target = both target (moves && conditions) after-priority .1 in
     record {
-      priority = within-true 1 9 (a .priority) (both-left priority (target && (moves && conditions)) e);
-      target = within-true SB IS (a .target) (both-left target (moves && conditions) after-priority);
-      moves = eqb-false (a .target) (a .leaves) (not-true (eqb (a .target) (a .leaves)) (both-left moves conditions after-target));
-      conditions = λ n h. within-true 1 conditionCount n (each (within 1 conditionCount) (a .conditions) (both-right moves conditions after-target) n h);
+      priority = within-true 1 9 (a .priority) (both priority (target && (moves && conditions)) e .0);
+      target = within-true SB IS (a .target) (both target (moves && conditions) after-priority .0);
+      moves = eqb-false (a .target) (a .leaves) (not-true (eqb (a .target) (a .leaves)) (both moves conditions after-target .0));
+      conditions = λ n h. within-true 1 conditionCount n (each (within 1 conditionCount) (a .conditions) (both moves conditions after-target .1) n h);
     }
 
 -- no transition of a list leaves the same mode for the same target as a later one
@@ -73,10 +73,10 @@ are-apart : (xs : List Transition) → apart xs ≡ true → Apart xs
 are-apart [] e = tt
 are-apart (x ∷ xs) e = (
   λ y h l t.
-      let n = each (λ y. not (alike x y)) xs (both-left (all (λ y. not (alike x y)) xs) (apart xs) e) y h in
+      let n = each (λ y. not (alike x y)) xs (both (all (λ y. not (alike x y)) xs) (apart xs) e .0) y h in
       let z : alike x y ≡ true = rw (eq-eqb (x .leaves) (y .leaves) l, eq-eqb (x .target) (y .target) t) in
       false≢true (sym (not-true (alike x y) n) ∙ z),
-  are-apart xs (both-right (all (λ y. not (alike x y)) xs) (apart xs) e),
+  are-apart xs (both (all (λ y. not (alike x y)) xs) (apart xs) e .1),
 )
 
 pub apart-those : (p : Transition → Bool) (xs : List Transition) → Apart xs → Apart (those p xs)
@@ -101,9 +101,9 @@ pub record TableChecked : Type 0 where
 
 pub table-checked : TableChecked
 table-checked =
-    let rest = both-right (eqb (length table) transitionCount) (all sound table && apart table) tested in
+    let rest = both (eqb (length table) transitionCount) (all sound table && apart table) tested .1 in
     record {
-      eighty = eqb-true (length table) transitionCount (both-left (eqb (length table) transitionCount) (all sound table && apart table) tested);
-      transitions = λ a h. checked a (each sound table (both-left (all sound table) (apart table) rest) a h);
-      targets = are-apart table (both-right (all sound table) (apart table) rest);
+      eighty = eqb-true (length table) transitionCount (both (eqb (length table) transitionCount) (all sound table && apart table) tested .0);
+      transitions = λ a h. checked a (each sound table (both (all sound table) (apart table) rest .0) a h);
+      targets = are-apart table (both (all sound table) (apart table) rest .1);
     }

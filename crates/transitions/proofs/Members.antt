@@ -8,7 +8,7 @@ use native.Mathlib.Omega.{arith}
 use lib.ListN.{length, take, drop}
 use lib.Seq.{slice}
 use Rattle.transitions.specs.Table.{Transition, those}
-use Rattle.numbers.proofs.Logic.{both-left, both-right}
+use Rattle.numbers.proofs.Logic.{both}
 
 module _ (p : Transition → Bool) (a : Transition) where
   -- one of those that pass is in the list, and passes
@@ -90,5 +90,5 @@ module _ {A : Type 0} (p : A → Bool) where
   pub each : (xs : List A) → all xs ≡ true → (a : A) → List·Memᴰ a xs → p a ≡ true
   each [] t a h = absurd (List·Memᴰ·not-nil h)
   each (x ∷ xs) t a h =
-      ⊎-elim (λ e. ap p e ∙ both-left (p x) (all xs) t)
-      (each xs (both-right (p x) (all xs) t) a) (List·Memᴰ·cases-cons h)
+      ⊎-elim (λ e. ap p e ∙ both (p x) (all xs) t .0)
+      (each xs (both (p x) (all xs) t .1) a) (List·Memᴰ·cases-cons h)

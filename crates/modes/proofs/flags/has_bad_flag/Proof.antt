@@ -19,10 +19,12 @@ loop-holds : tie.Need-loop-holds Inv-loop μ-loop
 loop-holds c = (search needs, refl)
 
 returns : tie.Need-returns Inv-loop μ-loop
-returns c = sym (above-here _ _ (c .before .before .loop-test .taken) (c .if1 .taken)) ∙ c .before .before .before .loop .inv .1
+returns c = let l = c .before .before .before .loop in
+    sym (above-here (c .before .before .before .before .args .flags .now) (l .i) (omega arith) (omega arith)) ∙ l .inv .1
 
 loop-again : tie.Need-loop-again Inv-loop μ-loop
-loop-again c = (omega arith, sym (above-next _ _ (c .before .before .loop-test .taken) (c .if1 .left)) ∙ c .before .before .before .loop .inv .1)
+loop-again c = let l = c .before .before .before .loop in
+    (omega arith, sym (above-next (c .before .before .before .before .args .flags .now) (l .i) (omega arith) (omega arith)) ∙ l .inv .1)
 
 returns-2 : tie.Need-returns-2 Inv-loop μ-loop
 returns-2 c = sym (above-end _ _ (c .loop-test .left)) ∙ c .before .loop .inv .1

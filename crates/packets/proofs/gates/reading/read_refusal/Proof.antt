@@ -1,6 +1,6 @@
 -- `packets::gates::reading::read_refusal` meets its contract: what the code has learnt at each step, and then the law for each way out.
-use Prim.Native.Nat.{ℕ, _+_, _-_, _*_, _/_, _<_}
-use mathlib.Core.Path.{_≡_, sym, ap, _∙_, subst}
+use Prim.Native.Nat.{ℕ, _+_, _-_, _*_, _/_}
+use mathlib.Core.Path.{_≡_, sym, ap, _∙_}
 use mathlib.Core.Bool.{not}
 use lib.Dec.{eqb}
 use Rattle.packets.specs.Refusals.{lengthNotForCount, refuse, orElse}
@@ -58,7 +58,8 @@ returns-3 c =
 
 returns-4 : tie.Need-returns-4
 unfolding readRefusal
-returns-4 c = gates-passed (c .before .before) _ (below _ _ _ _ (subst (λ (n : ℕ). 0 < n) (padding-eq (c .before)) (c .if4 .taken)))
+returns-4 c = let a = c .before .before .before .before .before .before .before .before .before .before .before .args in
+    gates-passed (c .before .before) _ (below 0 (paddingOf (a .distance) (a .s .now)) _ _ (omega (arith, padding-eq (c .before))))
 
 returns-5 : tie.Need-returns-5
 unfolding readRefusal

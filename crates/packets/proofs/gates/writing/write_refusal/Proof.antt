@@ -19,8 +19,9 @@ gates-passed : (c : tie.Else3) (rest : ℕ) {x : ℕ} → x ≡ rest
     (orElse (refuse (ltb (c .before .before .before .before .before .args .most) (gatesIn (c .before .before .before .before .before .args .list .now))) tooManyGates)
     (orElse (listRefusal (c .before .before .before .before .before .args .distance) (c .before .before .before .before .before .args .list .now) (gatesIn (c .before .before .before .before .before .args .list .now))) rest))
 gates-passed c rest e =
-    not-below _ _ _ _ (c .before .before .before .if1 .left)
-    (not-below _ _ _ _ (c .before .before .if2 .left) (next _ _ (sym (c .before .list-refusal .ensures) ∙ c .if3 .left) e))
+    let a = c .before .before .before .before .before .args in
+    not-below 0 (length (a .list .now) % gateBytes) _ _ (omega arith)
+    (not-below (a .most) (gatesIn (a .list .now)) _ _ (omega arith) (next _ _ (sym (c .before .list-refusal .ensures) ∙ c .if3 .left) e))
 
 returns : tie.Need-returns
 unfolding writeRefusal
@@ -28,13 +29,14 @@ returns c = below _ _ _ _ (c .if1 .taken)
 
 returns-2 : tie.Need-returns-2
 unfolding writeRefusal
-returns-2 c = not-below _ _ _ _ (c .before .if1 .left) (below _ _ _ _ (c .if2 .taken))
+returns-2 c = let a = c .before .before .before .args in
+    not-below _ _ _ _ (c .before .if1 .left) (below (a .most) (gatesIn (a .list .now)) _ _ (omega arith))
 
 returns-3 : tie.Need-returns-3
 unfolding writeRefusal
-returns-3 c =
+returns-3 c = let a = c .before .before .before .before .before .args in
     not-below _ _ _ _ (c .before .before .before .if1 .left)
-    (not-below _ _ _ _ (c .before .before .if2 .left) (ends _ _ (c .before .list-refusal .ensures) (c .if3 .taken)))
+    (not-below (a .most) (gatesIn (a .list .now)) _ _ (omega arith) (ends _ _ (c .before .list-refusal .ensures) (c .if3 .taken)))
 
 returns-4 : tie.Need-returns-4
 unfolding writeRefusal
