@@ -1,4 +1,4 @@
--- `host::radio::kb_frame` meets its contract. Assumes nothing.
+-- `host::radio::kb_frame` meets its contract.
 use lib.ListN.{length}
 use Rattle.host.specs.Frame.{frameAnswer}
 use borrow.Author.Needs.{needs}
