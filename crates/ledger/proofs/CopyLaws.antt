@@ -8,7 +8,7 @@ use lib.ListN.{length, getD, set, take, drop, length-drop}
 use lib.Seq.{sets, length-sets, take-suc, getD-drop}
 use borrow.Author.Tests.{lt-ltb, le-ltb}
 use Rattle.numbers.proofs.FieldLaws.{Bytes, lt-or-le}
-use Rattle.numbers.proofs.RowLaws.{sets-append}
+use Rattle.numbers.proofs.PieceLaws.{sets-append}
 use Rattle.rows.specs.Row.{rowBytes, rowAt}
 use Rattle.rows.proofs.RowLaws.{row-same}
 use Rattle.trains.specs.Sought.{rowCount}

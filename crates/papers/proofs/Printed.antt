@@ -4,7 +4,7 @@ use mathlib.Core.List.{List, map, map-congr-left}
 use Prim.Native.Nat.{ℕ}
 use lib.ListN.{length}
 use Rattle.numbers.specs.Fields.{bitAt, field}
-use Rattle.numbers.specs.Rows.{times, unpack}
+use Rattle.numbers.specs.Pieces.{times, unpack}
 use Rattle.packets.specs.Refusals.{refuse, orElse, unlessRefused}
 use Rattle.packets.specs.Framing.{headRefusal}
 use Rattle.packets.specs.Gates.{gateWidths, gateRules, gateRefusal}

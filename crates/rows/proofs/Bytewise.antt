@@ -8,9 +8,9 @@ use native.Mathlib.Omega.{arith}
 use lib.ListN.{length, getD}
 use Rattle.numbers.specs.Fields.{bitAt, field, putBit, put}
 use Rattle.numbers.specs.Numbers.{numberAt, putNumber}
-use Rattle.numbers.specs.Rows.{total, unpack, pack}
+use Rattle.numbers.specs.Pieces.{total, unpack, pack}
 use Rattle.numbers.proofs.FieldLaws.{field-past, put-past, length-put, length-putBit, bit-putBit, bit-put-out, lt-or-le}
-use Rattle.numbers.proofs.RowLaws.{bit-pack-out}
+use Rattle.numbers.proofs.PieceLaws.{bit-pack-out}
 use Rattle.rows.specs.Parts.{bits}
 
 -- a number at byte i is the field at that byte's first bit

@@ -10,9 +10,9 @@ use lib.Dec.{eqb}
 use lib.ListN.{length, set, length-set}
 use lib.Seq.{getD-set-same, getD-set-other, set-out}
 use Rattle.numbers.specs.Fields.{field}
-use Rattle.numbers.specs.Rows.{unpack}
+use Rattle.numbers.specs.Pieces.{unpack}
 use Rattle.numbers.proofs.FieldLaws.{field-lt, lt-or-le}
-use Rattle.numbers.proofs.RowLaws.{Fit, none, one}
+use Rattle.numbers.proofs.PieceLaws.{Fit, none, one}
 use Rattle.trains.specs.declared.record.Limit.{Limit}
 use Rattle.trains.specs.declared.record.Limit.the-variants.{Bare, To}
 use Rattle.trains.specs.declared.record.Order.{Order}

@@ -7,9 +7,9 @@ use native.Mathlib.Omega.{arith}
 use lib.ListN.{length, getD, take, drop, replicate, length-take, length-drop, length-replicate}
 use lib.Seq.{ext-getD, getD-take, getD-drop}
 use Rattle.numbers.specs.Fields.{bitAt, field}
-use Rattle.numbers.specs.Rows.{total, unpack, pack}
+use Rattle.numbers.specs.Pieces.{total, unpack, pack}
 use Rattle.numbers.proofs.FieldLaws.{Bytes, same-byte, field-byte}
-use Rattle.numbers.proofs.RowLaws.{length-pack, bytes-pack, bit-pack-out, unpack-pack}
+use Rattle.numbers.proofs.PieceLaws.{length-pack, bytes-pack, bit-pack-out, unpack-pack}
 use Rattle.trains.specs.declared.record.Train.{Train}
 use Rattle.trains.specs.Record.{blankTrain}
 use Rattle.rows.specs.Parts.{bits, trackSizes, ordersSizes, trackOf, ordersOf, trackValues, ordersValues, locationBy, limitBy, positionBy}

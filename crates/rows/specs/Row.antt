@@ -2,7 +2,7 @@
 use mathlib.Core.List.{List, [], _∷_, _++_}
 use Prim.Native.Nat.{ℕ, _*_}
 use lib.ListN.{getD, drop}
-use Rattle.numbers.specs.Rows.{unpack, pack}
+use Rattle.numbers.specs.Pieces.{unpack, pack}
 use Rattle.trains.specs.declared.record.Train.{Train}
 use Rattle.rows.specs.Parts.{bits, trackSizes, ordersSizes, trackValues, ordersValues, trackOf, ordersOf}
 

@@ -10,7 +10,7 @@ use trains::record::Track;
 use trains::record::Train;
 ghost use mathlib.Core.Path.{_≡_};
 ghost use Prim.Native.Nat.{_+_, _*_, _^_, _<_};
-ghost use Rattle.numbers.specs.Rows.{unpack, pack};
+ghost use Rattle.numbers.specs.Pieces.{unpack, pack};
 ghost use Rattle.rows.specs.Parts.{bits, locationSizes, positionSizes, trackSizes, orderSizes, ordersSizes, locationBy, limitBy, positionBy, locationOf, trackOf, orderOf, ordersOf};
 ghost use Rattle.rows.specs.Parts.{locationFlag, locationNumber, limitFlag, limitNumber, positionFlag, positionFront, positionRear, locationValues, positionValues, trackValues, orderValues, ordersValues};
 ghost use Rattle.rows.specs.Row.{headSizes, headValues, rowAt, putRow};

@@ -2,7 +2,7 @@
 use mathlib.Core.Path.{_∙_}
 use Prim.Native.Nat.{_+_, _*_}
 use native.Mathlib.Omega.{arith}
-use Rattle.numbers.specs.Rows.{unpack}
+use Rattle.numbers.specs.Pieces.{unpack}
 use Rattle.rows.specs.Parts.{locationBy}
 use Rattle.rows.proofs.Bytewise.{at-bit}
 use borrow.Author.Needs.{needs}

@@ -3,7 +3,7 @@ use mathlib.Core.Path.{_≡_, _∙_}
 use Prim.Native.Nat.{ℕ, _+_, _*_}
 use mathlib.Core.List.{[], _∷_}
 use native.Mathlib.Omega.{arith}
-use Rattle.numbers.specs.Rows.{unpack}
+use Rattle.numbers.specs.Pieces.{unpack}
 use Rattle.trains.specs.declared.record.Order.{Order}
 use Rattle.rows.specs.Parts.{bits, orderSizes, orderOf}
 use borrow.Author.Needs.{needs}

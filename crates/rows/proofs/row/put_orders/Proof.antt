@@ -3,7 +3,7 @@ use mathlib.Core.Path.{_≡_, _∙_}
 use Prim.Native.Nat.{ℕ, _+_, _*_}
 use mathlib.Core.List.{List}
 use native.Mathlib.Omega.{arith}
-use Rattle.numbers.specs.Rows.{pack}
+use Rattle.numbers.specs.Pieces.{pack}
 use Rattle.trains.specs.Record.{orderAt}
 use Rattle.rows.specs.Parts.{bits, orderSizes, orderValues}
 use borrow.Author.Needs.{needs}

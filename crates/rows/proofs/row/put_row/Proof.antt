@@ -1,7 +1,7 @@
 -- `rows::row::put_row` meets its contract.
 use mathlib.Core.Path.{sym, _∙_}
 use Prim.Native.Nat.{_+_, _*_}
-use Rattle.numbers.specs.Rows.{pack}
+use Rattle.numbers.specs.Pieces.{pack}
 use Rattle.rows.specs.Parts.{bits, trackSizes, ordersSizes, trackValues, ordersValues}
 use Rattle.rows.proofs.RowLaws.{put-parts, put-row-past}
 use borrow.Author.Needs.{needs}

@@ -3,7 +3,7 @@ use mathlib.Core.Path.{_≡_, _∙_}
 use Prim.Native.Nat.{ℕ, _+_, _*_}
 use mathlib.Core.List.{List}
 use native.Mathlib.Omega.{arith}
-use Rattle.numbers.specs.Rows.{pack}
+use Rattle.numbers.specs.Pieces.{pack}
 use Rattle.rows.specs.Parts.{bits, locationSizes, locationValues}
 use borrow.Author.Needs.{needs}
 use Rattle.rows.proofs.row.put_track.Statement.{statement}
