@@ -14,7 +14,7 @@ use Rattle.trains.specs.declared.kinds.Ticket.{Ticket}
 use Rattle.trains.specs.declared.record.Train.{Train}
 use Rattle.trains.proofs.ChangeLaws.{SameTrain}
 use Rattle.rules.specs.Effect.{markFor, marked, applied}
-use Rattle.rules.specs.Named.{namedIn}
+use Rattle.rules.specs.Named.{namedIn, nameGround}
 use Rattle.rules.specs.Registering.{ticketFor, released}
 use Rattle.rules.specs.Rules.{Op, release, groundOf, doneBy}
 use Rattle.rules.specs.View.{View, rowIn}
@@ -66,6 +66,12 @@ names-one c v order loco ticket i j a b =
 pub above-names-none : (c : Ticket) (v : View) → InOrder c v → (loco : Loco) (ticket : Ticket) → c .0 < ticket .0 → NamesNone loco ticket v
 above-names-none c v order loco ticket above i a =
     omega (arith, eqb-true (rowIn v i .ticket .0) (ticket .0) (a .by-ticket), order .trains i (a .live) .issued .issued)
+
+-- and an operation that names it so is refused
+pub none-refused : (loco : Loco) (ticket : Ticket) (v : View) → NamesNone loco ticket v → (next : ℕ) → nameGround (namedIn loco ticket v) next ≡ 0 → ⊥
+none-refused loco ticket v none next e =
+    let f = names loco ticket v next e .0 in
+    none (namedIn loco ticket v .row) (subst (Called loco ticket) (f .train) (f .has))
 
 -- no change of a train gives it another loco or ticket
 called-same : (loco : Loco) (ticket : Ticket) (u t : Train) → SameTrain u t → Called loco ticket u → Called loco ticket t
