@@ -143,8 +143,27 @@ module _ (c : Ticket) (v : View) (i : ℕ) (u : Train) (order : InOrder c v) (wi
   -- a slot that had a train has one, where the changed row does not lose it
   holder-kept : (book : List ℕ) (slot : ℕ) → (Live (rowIn v i) → Has (rowIn v i) slot → Live u × Has u slot) → Holder v slot → Holder (rowSet v i u book) slot
   holder-kept book slot this h =
-      let k = set-each (λ (k : ℕ) (t : Train). Live (rowIn v k) → Has (rowIn v k) slot → Live t × Has t slot) blankTrain (v .rows) i u row-there this (λ k n l m. (l, m)) (h .0) (h .1) (h .2) in
+      let k =
+      set-each (λ (k : ℕ) (t : Train). Live (rowIn v k) → Has (rowIn v k) slot → Live t × Has t slot) blankTrain (v .rows) i u row-there this
+      (λ k n l m. (l, m)) (h .0) (h .1) (h .2)
+      in
       (h .0, k .0, k .1)
+
+  -- a slot that is taken after a run is marked has a train: of the run, the changed row; of any other, the one that it had
+  held-after : (start n mark slot : ℕ) → isTaken (marked (v .book) start n mark) (slotOf slot) ≡ true
+      → (InBook slot → InRun start n slot → (mark ≡ 0 → ⊥) → Live u × Has u slot)
+      → ((InRun start n slot → ⊥) → Live (rowIn v i) → Has (rowIn v i) slot → Live u × Has u slot)
+      → Holder (rowSet v i u (marked (v .book) start n mark)) slot
+  held-after start n mark slot q inside outside =
+      let means = taken-means (marked (v .book) start n mark) slot q in
+      run-or-not start n slot
+      (λ r.
+      let mine = inside (means .0) r (λ z. means .1 (marked-inside (v .book) start n mark slot (order .sound .book) (means .0) r ∙ z)) in
+      let there = getD-set-same (v .rows) i u blankTrain row-there in
+      (i, rw there (mine .0), rw there (mine .1)))
+      (λ out.
+      holder-kept (marked (v .book) start n mark) slot (outside out)
+      (order .taken slot (taken-alike (marked (v .book) start n mark) (v .book) slot (marked-outside (v .book) start n mark slot (means .0) out) q)))
 
   -- where the changed row shares no loco and no ticket with another, and is in order itself
   order-set : (d : Ticket) (book : List ℕ) → c .0 ≤ d .0 → Sound (rowSet v i u book) → ((k : ℕ) → getD book k 0 ≤ 1)
@@ -182,12 +201,7 @@ module _ (c : Ticket) (v : View) (i : ℕ) (u : Train) (order : InOrder c v) (wi
       let empty : isEmpty u ≡ true = rw gone in
       order-set c (marked (v .book) start n 0) (omega arith) (sound-freed v i u (order .sound) within live empty)
       (marked-each (λ m. m ≤ 1) (v .book) start n 0 (order .sound .book) (omega arith) (order .marks))
-      (λ slot q.
-      let means = taken-means (marked (v .book) start n 0) slot q in
-      run-or-not start n slot (λ r. absurd (means .1 (marked-inside (v .book) start n 0 slot (order .sound .book) (means .0) r)))
-      (λ out.
-      holder-kept (marked (v .book) start n 0) slot (λ l h. absurd (out (h .run)))
-      (order .taken slot (taken-alike (marked (v .book) start n 0) (v .book) slot (marked-outside (v .book) start n 0 slot (means .0) out) q))))
+      (λ slot q. held-after start n 0 slot q (λ b r z. absurd (z refl)) (λ out l h. absurd (out (h .run))))
       (λ k m l. absurd (true≢false (sym empty ∙ l))) (λ k m l. absurd (true≢false (sym empty ∙ l))) (λ l. absurd (true≢false (sym empty ∙ l))) (λ z. gone)
 
   -- a train granted, under a ticket above the counter
@@ -199,13 +213,7 @@ module _ (c : Ticket) (v : View) (i : ℕ) (u : Train) (order : InOrder c v) (wi
       let n : ℕ = u .slots in
       order-set (u .ticket) (marked (v .book) start n 1) (omega arith) (sound-taken v i u (order .sound) within free)
       (marked-each (λ m. m ≤ 1) (v .book) start n 1 (order .sound .book) (omega arith) (order .marks))
-      (λ slot q.
-      let means = taken-means (marked (v .book) start n 1) slot q in
-      run-or-not start n slot
-      (λ r. (i, rw (getD-set-same (v .rows) i u blankTrain row-there) live, rw (getD-set-same (v .rows) i u blankTrain row-there) (record { book = means .0; run = r })))
-      (λ out.
-      holder-kept (marked (v .book) start n 1) slot (λ l h. absurd (true≢false (sym empty ∙ l)))
-      (order .taken slot (taken-alike (marked (v .book) start n 1) (v .book) slot (marked-outside (v .book) start n 1 slot (means .0) out) q))))
+      (λ slot q. held-after start n 1 slot q (λ b r z. (live, record { book = b; run = r })) (λ out l h. absurd (true≢false (sym empty ∙ l))))
       (λ k m l. loco k) (λ k m l h s. omega (arith, eqb-true (u .ticket .0) (rowIn v k .ticket .0) s, order .trains k h .issued .issued))
       (λ l. fits) (λ z. absurd (true≢false (sym z ∙ live)))
 
@@ -289,11 +297,14 @@ order-raised margin grid c v i j order within live within′ live′ apart =
     let other = ne-eqb (t1 .ticket .0) (t2 .ticket .0) (λ e. apart (sym (order .tickets j i live′ live (eq-eqb (t1 .ticket .0) (t2 .ticket .0) e)))) in
     let a : Train = shareTaken (shareFor2 margin grid t2 t1) (t1 .ticket) t2 in
     let b : Train = shareTaken (shareFor1 grid t2 t1) (t2 .ticket) t1 in
-    let fitsA = share-fits c t2 (shareFor2 margin grid t2 t1) (t1 .ticket) fits2 (share2-fits measure (t1 .track .position) (t2 .track .position) margin (fits1 .position) (fits2 .position)) (fits1 .ticket) (fits1 .issued) other in
-    let fitsB = share-fits c t1 (shareFor1 grid t2 t1) (t2 .ticket) fits1 (share1-fits measure t1 (fits1 .position)) (fits2 .ticket) (fits2 .issued) (ne-eqb (t2 .ticket .0) (t1 .ticket .0) (λ e. eqb-false (t1 .ticket .0) (t2 .ticket .0) other (sym e))) in
+    let limit2 = share2-fits measure (t1 .track .position) (t2 .track .position) margin (fits1 .position) (fits2 .position) in
+    let limit1 = share1-fits measure t1 (fits1 .position) in
+    let turned = ne-eqb (t2 .ticket .0) (t1 .ticket .0) (λ e. eqb-false (t1 .ticket .0) (t2 .ticket .0) other (sym e)) in
+    let after2 = share-fits c t2 (shareFor2 margin grid t2 t1) (t1 .ticket) fits2 limit2 (fits1 .ticket) (fits1 .issued) other in
+    let after1 = share-fits c t1 (shareFor1 grid t2 t1) (t2 .ticket) fits1 limit1 (fits2 .ticket) (fits2 .issued) turned in
     let stays = sym (row-other v i j a apart) in
-    order-same c (rowSet v i a (v .book)) j b (order-same c v i a order within (share-same (shareFor2 margin grid t2 t1) (t1 .ticket) t2) live fitsA) within′
-    (subst (SameTrain b) stays (share-same (shareFor1 grid t2 t1) (t2 .ticket) t1)) (subst Live stays live′) fitsB
+    order-same c (rowSet v i a (v .book)) j b (order-same c v i a order within (share-same (shareFor2 margin grid t2 t1) (t1 .ticket) t2) live after2) within′
+    (subst (SameTrain b) stays (share-same (shareFor1 grid t2 t1) (t2 .ticket) t1)) (subst Live stays live′) after1
 
 -- ---- accepted operations
 

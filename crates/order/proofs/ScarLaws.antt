@@ -31,7 +31,8 @@ use Rattle.order.proofs.SoundLaws.{live-same}
 
 -- ---- a release
 
-freed : (loco : Loco) (ticket : Ticket) (v : View) (i : ℕ) → Sound v → i < rowCount → Called loco ticket (rowIn v i) → Released loco ticket v (rowSet v i blankTrain (marked (v .book) (rowIn v i .start .0) (rowIn v i .slots) 0))
+freed : (loco : Loco) (ticket : Ticket) (v : View) (i : ℕ) → Sound v → i < rowCount → Called loco ticket (rowIn v i)
+    → Released loco ticket v (rowSet v i blankTrain (marked (v .book) (rowIn v i .start .0) (rowIn v i .slots) 0))
 freed loco ticket v i sound within had =
     record {
       row = i;
