@@ -104,11 +104,10 @@ module _ (bs : List ℕ) (lent : Lent bs) (o : Op) where
     }
 
     ticket-due : ticketSaid o (judged usual bs o .answer) ≡ ticketDue (rules usual) o (counterOf bs .0)
-    unfolding judged
+    unfolding judged ticketFor ticketDue
     ticket-due = by (grants o) refl
       where
         by : (b : Bool) → grants o ≡ b → cond b (judged usual bs o .answer .first) 0 ≡ ticketDue (rules usual) o (counterOf bs .0)
-        unfolding ticketFor ticketDue
         by true g =
             grant-told usual o (counterOf bs) (ticketFor (counterOf bs)) (viewOf bs) (no-ground bs lent o h) g
             ∙ sym (due-grant usual o (counterOf bs .0) g)

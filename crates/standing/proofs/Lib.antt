@@ -2,5 +2,4 @@ pub mod SaidLaws
 pub mod RulesLaws
 pub mod KeptLaws
 pub mod Theorem
-pub mod OrderedLaws
 pub mod Links

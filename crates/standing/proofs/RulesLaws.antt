@@ -5,8 +5,9 @@ use Prim.Native.Nat.{ℕ, suc, _≤_, _<_}
 use native.Mathlib.Omega.{arith}
 use borrow.Author.Tests.{eqb-true, eq-eqb, ne-eqb}
 use Rattle.replay.specs.Rules.{Lawful, refuse, accept, justBelow, ticketDue, judged}
-use Rattle.trains.specs.Kinds.{lastTicket}
+use Rattle.trains.specs.Kinds.{lastSlot, lastTicket}
 use Rattle.trains.specs.declared.kinds.Ticket.{Ticket}
+use Rattle.trains.proofs.RangeLaws.{one-to}
 use Rattle.rules.specs.Effect.{applied}
 use Rattle.rules.specs.Registering.{ticketOf, ticketFor}
 use Rattle.rules.specs.Rules.{Op, grants, groundOf, doneBy, rule}
@@ -17,7 +18,7 @@ use Rattle.rules.specs.declared.ruling.Ruling.{Ruling}
 use Rattle.rules.specs.declared.settings.Settings.{Settings}
 use Rattle.order.specs.Sound.{Sound}
 use Rattle.order.proofs.RuleLaws.{accepted-plain, accepted-exactly, grant-below, Alike, again, grant-again}
-use Rattle.order.proofs.SoundLaws.{sound-kept, run-held, rows-within}
+use Rattle.order.proofs.SoundLaws.{sound-kept, run-held}
 use Rattle.ledger.specs.Log.{saved, undone}
 use Rattle.ledger.proofs.LogLaws.{undo-save}
 use Rattle.standing.specs.Said.{Reply, replyOf}
@@ -119,8 +120,10 @@ module _ (s : Settings) (o : Op) (c : ℕ) (v w : View) (r : Reply) (sound : Sou
   unfolding effect
   undoes =
       (λ i. undone (saved v (saved-is i)) (sym view-is i))
-      ∙ undo-save v effect (sound .rows) (rows-within s o (ticketOf c) (ticketOf (ticketDue (rules s) o c)) v ground)
-      (run-held s o (ticketOf c) (ticketOf (ticketDue (rules s) o c)) v sound ground)
+      ∙ undo-save v effect (sound .book)
+      (λ slot range low high.
+      let r = one-to lastSlot (slot .0) range in
+      run-held s o (ticketOf c) (ticketOf (ticketDue (rules s) o c)) v sound ground (slot .0) (record { low = r .0; high = r .1 }) (record { low = low; high = high }))
 
   pub acts-again : outcome v (rule s o (ticketOf (justBelow (ticketDue (rules s) o c))) (ticketOf (ticketDue (rules s) o c)) v) ≡ accept r w
   acts-again = outcome-alike v _ _ (due-again s o c v ground) ∙ e
