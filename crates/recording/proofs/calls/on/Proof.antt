@@ -8,7 +8,7 @@ use Rattle.recording.proofs.calls.on.Tie as tie
 
 returns : tie.Need-returns
 returns c =
-    let a = c .before .before .before .before .before .before .before .before .args in
+    let a = c .before .before .before .before .before .before .before .before .before .args in
     let made = c .before .before .on in
     called-op _
     (λ i. Op.on (c .before .before .before .before .before .before .loco-at .ensures i) (c .before .before .before .before .before .ticket-at .ensures i)
