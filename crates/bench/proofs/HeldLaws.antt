@@ -1,31 +1,36 @@
--- Laws of what is held. Assumes nothing.
+-- Laws of what is held.
 use mathlib.Core.Path.{_≡_, refl, sym, ap, ap₂, _∙_}
 use mathlib.Core.Bool.{false}
-use mathlib.Core.List.{List, [], _∷_, _++_}
+use mathlib.Core.List.{List, [], _∷_, _++_, append-nil}
 use Prim.Native.Nat.{ℕ, zero, suc, _+_, _-_, _≤_, _<_, min}
 use native.Mathlib.Decide.{decLt}
 use native.Mathlib.Numerals.{add-one}
 use native.Mathlib.Omega.{arith}
-use lib.ListN.{length, take, drop, getD, set, length-take, length-drop, length-set, drop-of-length-le}
+use lib.IntN.{ℤ, pos, negsuc}
+use lib.ListN.{length, take, drop, getD, set, length-take, length-drop, length-set, drop-of-length-le, take-append-drop}
 use lib.Seq.{take-all, take-take, length-take-le, take-nil, drop-nil, drop-drop, take-suc, take-suc-set, drop-set-lt, getD-drop}
+use borrow.Author.Tests.{ltb-false}
 use borrow.Rule.Slice.PartMut.{putMid, take-put}
+use Rattle.io.specs.Counts.{clamped}
+use Rattle.bench.specs.declared.held.Got.{Got}
 use Rattle.bench.specs.declared.held.Held.{Held}
-use Rattle.bench.specs.Held.{stretch, heldBytes, Continues, IsReady, ReadOn}
+use Rattle.recording.specs.Records.{longest}
+use Rattle.bench.specs.Held.{stretch, heldBytes, behindBy, gotBy, IsReady, ReadOn}
 
--- ---- a stretch whose places are kept within the buffer
+-- ---- a stretch whose offsets are kept within the buffer
 
 empty-past : (b : List ℕ) (at end : ℕ) → end ≤ at → stretch b at end ≡ []
 unfolding stretch
 empty-past b at end h = let e : end - at ≡ 0 = omega arith in rw e
 
--- the bytes up to a place past the end are those up to the end
+-- the bytes up to an offset past the end are those up to the end
 stretch-long : (b : List ℕ) (at end : ℕ) → length b ≤ end → stretch b at end ≡ stretch b at (length b)
 unfolding stretch
 stretch-long b at end h =
     take-all (end - at) (drop at b) (rw length-drop (omega arith))
     ∙ sym (take-all (length b - at) (drop at b) (rw length-drop (omega arith)))
 
--- and from a place past the end there are none
+-- and from an offset past the end there are none
 stretch-past : (b : List ℕ) (at end : ℕ) → length b ≤ at → stretch b at end ≡ []
 unfolding stretch
 stretch-past b at end h = rw (drop-of-length-le b h) (take-nil (end - at))
@@ -49,7 +54,7 @@ pub stretch-length : (b : List ℕ) (a e : ℕ) → e ≤ length b → length (s
 unfolding stretch
 stretch-length b a e h = length-take-le (e - a) (drop a b) (rw length-drop (omega arith))
 
--- so it has as many bytes as lie between those places
+-- so it has as many bytes as lie between those offsets
 pub within-enough : (b : List ℕ) (at end a e n : ℕ) → e ≡ min end (length b) → a ≡ min at e → n ≤ e - a → n ≤ length (stretch b at end)
 within-enough b at end a e n he ha h = rw (← stretch-within b at end a e he ha, stretch-length b a e (omega arith)) h
 
@@ -67,13 +72,20 @@ stretch-drop b at end used =
     let e : end - at - used ≡ end - (at + used) = omega arith in
     drop-take used (end - at) (drop at b) ∙ ap₂ take e (drop-drop used at b)
 
-pub stretch-behind : (b : List ℕ) (at end used m k : ℕ) → m ≡ min at end → k ≡ min used (end - m)
-    → stretch b (end - (end - m) + k) end ≡ drop used (stretch b at end)
-stretch-behind b at end used m k hm hk = of (decLt (at + used) end) ∙ sym (stretch-drop b at end used)
+-- the offset behind those that were used is kept within what is held
+pub behind-by : (h : Held) (used m k : ℕ) → m ≡ min (h .at) (h .end) → k ≡ min used (h .end - m)
+    → record { at = h .end - (h .end - m) + k; end = h .end; ended = h .ended; failed = h .failed } ≡ behindBy used h
+behind-by h used m k hm hk =
+    let e : h .end - (h .end - m) + k ≡ min (h .at + used) (h .end) = omega arith in
+    λ i. record { at = e i; end = h .end; ended = h .ended; failed = h .failed }
+
+-- so the bytes behind those that were used are held
+pub behind-held : (b : List ℕ) (h : Held) (used : ℕ) → heldBytes b (behindBy used h) ≡ drop used (heldBytes b h)
+behind-held b h used = of (decLt (h .at + used) (h .end)) ∙ sym (stretch-drop b (h .at) (h .end) used)
   where
-    of : Dec (at + used < end) → stretch b (end - (end - m) + k) end ≡ stretch b (at + used) end
-    of (yes l) = ap (λ (n : ℕ). stretch b n end) (omega arith)
-    of (no l) = empty-past b (end - (end - m) + k) end (omega arith) ∙ sym (empty-past b (at + used) end (omega arith))
+    of : Dec (h .at + used < h .end) → stretch b (min (h .at + used) (h .end)) (h .end) ≡ stretch b (h .at + used) (h .end)
+    of (yes l) = ap (λ (n : ℕ). stretch b n (h .end)) (omega arith)
+    of (no l) = empty-past b (min (h .at + used) (h .end)) (h .end) (omega arith) ∙ sym (empty-past b (h .at + used) (h .end) (omega arith))
 
 -- ---- bytes moved to the front, one by one
 
@@ -101,24 +113,43 @@ pub read-keeps : (xs ys : List ℕ) (kept end k : ℕ) → kept ≤ end → end 
 read-keeps xs ys kept end k l h =
     sym (take-take kept end (putMid end k xs ys) l) ∙ ap (take kept) (take-put end k xs ys h) ∙ take-take kept end xs l
 
--- b is the buffer before its bytes are moved, t then, and u when read on; a and e are the places kept within the buffer
-module _ (b t u : List ℕ) (at end a e : ℕ) (r : Held) (he : e ≡ min end (length b)) (ha : a ≡ min at e)
+-- b is the buffer before its bytes are moved, t then, and u when read on; a and e are the offsets kept within the buffer
+module _ (b t u : List ℕ) (h r : Held) (a e : ℕ) (he : e ≡ min (h .end) (length b)) (ha : a ≡ min (h .at) e) (more-come : h .ended ≡ false)
     (moved : take (e - a) t ≡ take (e - a) (drop a b)) (on : ReadOn (e - a) t u r) where
   held-all : heldBytes u r ≡ take (r .end) u
   unfolding stretch
   held-all = let z : r .end - 0 ≡ r .end = omega arith in rw (on .front, z)
 
-  begun : Continues (stretch b a e) (take (r .end) u)
+  first : take (e - a) u ≡ heldBytes b h
   unfolding stretch
-  begun = rw (stretch-length b a e (omega arith), take-take (e - a) (r .end) u (on .more)) (on .same ∙ moved)
+  first = on .same ∙ moved ∙ stretch-within b (h .at) (h .end) a e he ha
 
-  pub read-continues : Continues (stretch b at end) (heldBytes u r)
-  read-continues = rw held-all (rw (stretch-within b at end a e he ha) at begun)
+  pub read-ready : IsReady b h u r
+  read-ready =
+      let size : length (take (r .end) u) ≡ r .end = length-take-le (r .end) u (on .inside) in record {
+        more = drop (e - a) (take (r .end) u);
+        kept = held-all ∙ sym (take-append-drop (e - a) (take (r .end) u))
+            ∙ ap (λ (s : List ℕ). s ++ drop (e - a) (take (r .end) u)) (take-take (e - a) (r .end) u (on .more) ∙ first);
+        closed = λ c. let z : _≡_ {A = ℕ} 0 1 = cc (c, more-come) in absurd (omega arith);
+        enough = λ n. rw held-all (omega (arith, size, ltb-false (r .end) longest (sym (on .ended) ∙ n)));
+        failed = λ f n. on .failed n;
+      }
 
-  pub read-ready : IsReady u r
-  read-ready more = rw (held-all, length-take-le (r .end) u (on .inside)) (on .enough more)
+-- what is held stays where nothing is read
+pub stays-ready : (b : List ℕ) (h : Held) → (h .ended ≡ false → longest ≤ length (heldBytes b h)) → IsReady b h b h
+stays-ready b h enough = record {
+  more = [];
+  kept = sym (append-nil (heldBytes b h));
+  closed = λ c. (refl, refl);
+  enough = enough;
+  failed = λ f n. f;
+}
 
--- where no bytes are held, there are none
-pub none-held : (s t : List ℕ) → s ≡ t → length s ≡ 0 → t ≡ []
-none-held [] t e h = sym e
-none-held (x ∷ s) t e h = absurd (omega arith)
+-- a read gives no more than there is room for
+clamped-most : (answer : ℤ) (most : ℕ) → clamped answer most ≤ most
+clamped-most (pos k) most = omega arith
+clamped-most (negsuc k) most = omega arith
+
+pub count-inside : (g : Got) (answer : ℤ) (most : ℕ) → g ≡ gotBy answer most → g .count ≤ most
+unfolding gotBy
+count-inside g answer most e = omega (arith, ap (λ (g : Got). g .count) e, clamped-most answer most)

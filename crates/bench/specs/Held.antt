@@ -1,12 +1,18 @@
--- What is held of the recording.
-use mathlib.Core.Bool.{false}
-use mathlib.Core.List.{List}
+-- What is held of the recording: a stretch of a buffer.
+use mathlib.Core.Bool.{Bool, true, false, _||_}
+use mathlib.Core.List.{List, [], _++_}
 use mathlib.Core.Path.{_≡_}
-use Prim.Native.Nat.{ℕ, _-_, _≤_}
+use Prim.Native.Nat.{ℕ, _+_, _-_, _≤_, min}
+use lib.Dec.{eqb, ltb}
+use lib.IntN.{ℤ, pos}
 use lib.ListN.{length, take, drop}
+use lib.Signed.{ltZ}
+use Rattle.io.specs.Counts.{clamped}
+use Rattle.recording.specs.Records.{longest}
+use Rattle.bench.specs.declared.held.Got.{Got}
 use Rattle.bench.specs.declared.held.Held.{Held}
 
--- the bytes of a buffer from one place up to another
+-- the bytes of a buffer from one offset up to another
 unfoldable pub stretch : List ℕ → ℕ → ℕ → List ℕ
 stretch buffer at end = take (end - at) (drop at buffer)
 
@@ -14,22 +20,44 @@ stretch buffer at end = take (end - at) (drop at buffer)
 abbrev pub heldBytes : List ℕ → Held → List ℕ
 heldBytes buffer h = stretch buffer (h .at) (h .end)
 
+-- where they stand in a buffer of so many bytes
+abbrev pub heldAt : ℕ → Held → ℕ
+heldAt size h = min (h .at) (min (h .end) size)
+
+-- nothing is held, and more may come
+abbrev pub nothingHeld : Held
+nothingHeld = record { at = 0; end = 0; ended = false; failed = false }
+
 -- of the same bytes, the first `used` are not held any more
-abbrev pub IsBehind : ℕ → Held → Held → Type 0
-IsBehind used h r = (buffer : List ℕ) → heldBytes buffer r ≡ drop used (heldBytes buffer h)
+abbrev pub behindBy : ℕ → Held → Held
+behindBy used h = record { at = min (h .at + used) (h .end); end = h .end; ended = h .ended; failed = h .failed }
 
--- t is s, or s with more behind it
-abbrev pub Continues : List ℕ → List ℕ → Type 0
-Continues s t = take (length s) t ≡ s
+-- no record is run: nothing can be read, or nothing is left
+unfoldable pub isEnd : Held → List ℕ → Bool
+isEnd h bytes = h .failed || eqb (length bytes) 0
 
--- as many bytes are held as the longest record has, unless no more come
-abbrev pub IsReady : List ℕ → Held → Type 0
-IsReady buffer h = h .ended ≡ false → 101 ≤ length (heldBytes buffer h)
+-- an answer of the system that is below 0 says that it failed
+abbrev pub isFailure : ℤ → Bool
+isFailure answer = ltZ answer (pos 0)
 
--- what reading behind the first `kept` bytes of a buffer does: they stay, and what is held begins with them
+-- what a read of so many bytes gave, by the system's answer
+unfoldable pub gotBy : ℤ → ℕ → Got
+gotBy answer most = record { count = clamped answer most; failed = isFailure answer }
+
+-- what reading behind the first `kept` bytes of a buffer does: they stay, what is held begins with them, and the input has ended where fewer
+-- bytes are held than the longest record has
 pub record ReadOn (kept : ℕ) (before after : List ℕ) (r : Held) : Type 0 where
   pub front : r .at ≡ 0
   pub more : kept ≤ r .end
   pub inside : r .end ≤ length after
   pub same : take kept after ≡ take kept before
-  pub enough : r .ended ≡ false → 101 ≤ r .end
+  pub ended : r .ended ≡ ltb (r .end) longest
+  pub failed : r .ended ≡ false → r .failed ≡ false
+
+-- what is held made ready for a turn: `more` is read behind it, as much as the longest record needs; nothing where the input has ended
+pub record IsReady (before : List ℕ) (h : Held) (after : List ℕ) (r : Held) : Type 0 where
+  pub more : List ℕ
+  pub kept : heldBytes after r ≡ heldBytes before h ++ more
+  pub closed : h .ended ≡ true → (more ≡ []) × (r ≡ h)
+  pub enough : r .ended ≡ false → longest ≤ length (heldBytes after r)
+  pub failed : h .failed ≡ false → r .ended ≡ false → r .failed ≡ false

@@ -1,42 +1,21 @@
--- A play, record by record.
-use mathlib.Core.Bool.{Bool, true, false, not, _||_}
-use mathlib.Core.List.{List, []}
-use mathlib.Core.Logic.{_⊎_}
+-- A PLAY, turn by turn: what a turn reads, runs, puts and hands to the system, and what the turns of a play come to.
+use mathlib.Core.Bool.{Bool, true, false, not, cond, _&&_}
+use mathlib.Core.List.{List, [], _++_}
 use mathlib.Core.Path.{_≡_}
 use Prim.Native.Nat.{ℕ, _+_, _≤_}
-use lib.Dec.{eqb}
-use Rattle.lines.specs.Line.{lineOf}
-use Rattle.recording.specs.Listing.{accepted}
-use Rattle.recording.specs.Listing.{lineOf as textFor}
-use Rattle.recording.specs.Running.{ranRecord, bytesAfterRecord}
+use lib.ListN.{length}
+use Rattle.lines.specs.Line.{room}
+use Rattle.lines.specs.Text.{runLine, endLine}
+use Rattle.recording.specs.Recorded.{emptySession}
+use Rattle.recording.specs.Running.{mostRecords, ranRecord, bytesAfterRecord}
 use Rattle.recording.specs.declared.running.Ran.{Ran}
+use Rattle.listing.specs.Listing.{textOf, oneIfAccepted, listing}
+use Rattle.listing.specs.Turns.{putAt, isLast}
 use Rattle.bench.specs.declared.Play.{Play}
 use Rattle.bench.specs.declared.held.Held.{Held}
 use Rattle.bench.specs.declared.pending.Pending.{Pending}
-use Rattle.bench.specs.Held.{heldBytes, IsBehind, Continues, IsReady}
-use Rattle.bench.specs.Pending.{IsPut}
-
--- the play stops behind a record that is none, and where the listing cannot be written
-unfoldable pub isLast : Ran → Pending → Bool
-isLast ran pending = eqb (ran .kind) 0 || not (pending .open)
-
--- a record that was run: its line is put, it is counted, and `held` is what stands behind it
-pub record IsRecorded (play : Play) (held : Held) (ran : Ran) (before after : List ℕ) (r : Play) : Type 0 where
-  pub rest : r .held ≡ held
-  pub line : IsPut before (play .pending) (lineOf (textFor ran)) after (r .pending)
-  pub lines : r .lines ≡ ran .number
-  pub counted : r .accepted ≡ play .accepted + accepted ran
-  pub one : r .accepted ≤ play .accepted + 1
-  pub stops : r .stopped ≡ isLast ran (r .pending)
-
--- the same play at its end
-abbrev pub stoppedAt : Play → Held → Play
-stoppedAt play held =
-    record { held = held; pending = play .pending; lines = play .lines; accepted = play .accepted; stopped = true }
-
--- nothing can be read, or nothing is left
-abbrev pub IsOver : List ℕ → Held → Type 0
-IsOver input held = (held .failed ≡ true) ⊎ (heldBytes input held ≡ [])
+use Rattle.bench.specs.Held.{heldBytes, nothingHeld, behindBy, isEnd, IsReady}
+use Rattle.bench.specs.Pending.{pendingBytes, nothingPending, withMore, HasRoom}
 
 -- the bytes that a play works on
 pub record Bytes : Type 0 where
@@ -47,26 +26,72 @@ pub record Bytes : Type 0 where
 abbrev pub bytes : List ℕ → List ℕ → List ℕ → Bytes
 bytes session input output = record { session = session; input = input; output = output }
 
--- the play stops, and nothing else happens
-pub record Stops (play : Play) (held : Held) (before after : Bytes) (r : Play) : Type 0 where
-  pub over : IsOver (after .input) held
-  pub same : r ≡ stoppedAt play held
-  pub session : after .session ≡ before .session
-  pub output : after .output ≡ before .output
+-- a play before its first record: the first line is pending
+abbrev pub begunPlay : Play
+begunPlay = record { held = nothingHeld; pending = withMore (length runLine) nothingPending; lines = 0; accepted = 0; over = false }
 
--- the first record of what is held is run, where n came before it
-pub record Runs (play : Play) (n : ℕ) (held : Held) (before after : Bytes) (r : Play) : Type 0 where
-  pub goes-on : (held .failed ≡ false) × (heldBytes (after .input) held ≡ [] → ⊥)
-  pub ran : Ran
-  pub told : ran ≡ ranRecord (before .session) (heldBytes (after .input) held) n
-  pub session : after .session ≡ bytesAfterRecord (before .session) (heldBytes (after .input) held) n
-  pub rest : Held
-  pub behind : IsBehind (ran .used) held rest
-  pub recorded : IsRecorded play rest ran (before .output) (after .output) r
+-- it goes on until it is over, or nothing can be read, or nothing written
+unfoldable pub goesOn : Play → Bool
+goesOn play = not (play .over) && not (play .held .failed) && play .pending .writable
 
--- one turn of a play: more of the recording is read where too little is held, and then the play stops or goes on
-pub record IsStep (play : Play) (n : ℕ) (before after : Bytes) (r : Play) : Type 0 where
+-- a play that can have another record: it has a number, and no more were accepted than there are lines
+pub record CanGoOn (play : Play) : Type 0 where
+  pub few : play .lines ≤ mostRecords
+  pub counted : play .accepted ≤ play .lines
+
+-- no record is run: the recording is over, unless it could not be read
+abbrev pub stoppedAt : Play → Held → Pending → Play
+stoppedAt play held pending =
+    record { held = held; pending = pending; lines = play .lines; accepted = play .accepted; over = not (held .failed) }
+
+-- a record was run: its line is pending, it is counted, and what it used is not held any more
+abbrev pub playedOn : Play → Held → Pending → Ran → Play
+playedOn play held pending ran = record {
+  held = behindBy (ran .used) held;
+  pending = withMore (length (textOf ran)) pending;
+  lines = play .lines + 1;
+  accepted = play .accepted + oneIfAccepted ran;
+  over = isLast ran;
+}
+
+-- THE FIRST RECORD of what is held is run, unless there is none: the play after it, and the bytes of session and output
+pub record RunsFirst (play : Play) (held : Held) (pending : Pending) (first session output session' output' : List ℕ) (r : Play) : Type 0 where
+  pub short : isEnd held first ≡ false → length (textOf (ranRecord session first (play .lines))) ≤ room
+  pub told : r ≡ cond (isEnd held first) (stoppedAt play held pending) (playedOn play held pending (ranRecord session first (play .lines)))
+  pub bytes : session' ≡ cond (isEnd held first) session (bytesAfterRecord session first (play .lines))
+  pub text : output' ≡ cond (isEnd held first) output (putAt output (pending .filled) (textOf (ranRecord session first (play .lines))))
+
+-- ONE TURN: what is held is made ready, there is room for a line, and the first record of what is held is run
+pub record IsTurn (play : Play) (before after : Bytes) (r : Play) : Type 0 where
   pub held : Held
-  pub kept : Continues (heldBytes (before .input) (play .held)) (heldBytes (after .input) held)
-  pub ready : IsReady (after .input) held
-  pub turn : Stops play held before after r ⊎ Runs play n held before after r
+  pub ready : IsReady (before .input) (play .held) (after .input) held
+  pub pending : Pending
+  pub roomy : HasRoom (before .output) (play .pending) pending
+  pub runs : RunsFirst play held pending (heldBytes (after .input) held) (before .session) (before .output) (after .session) (after .output) r
+
+-- THE TURNS of a play from where it begins, one after another: what was read in them, and what was handed to the system
+pub data Turns (start : Bytes) : List ℕ → List ℕ → Bytes → Play → Type 0 where
+  none : Turns start [] [] start begunPlay
+  next : {read sent : List ℕ} {before after : Bytes} {play r : Play} → Turns start read sent before play → goesOn play ≡ true
+      → (t : IsTurn play before after r) → Turns start (read ++ t .ready .more) (sent ++ t .roomy .sent) after r
+
+-- a play that made its turns until it stopped
+pub record IsPlayed (start after : Bytes) (r : Play) : Type 0 where
+  pub read : List ℕ
+  pub sent : List ℕ
+  pub turns : Turns start read sent after r
+  pub stopped : goesOn r ≡ false
+
+-- the last line is put, where the recording is over
+pub record IsEnded (play : Play) (before after : List ℕ) (r : Pending) : Type 0 where
+  pub sent : List ℕ
+  pub text : sent ++ pendingBytes after r ≡ pendingBytes before (play .pending) ++ cond (play .over) (endLine (play .lines) (play .accepted)) []
+  pub writable : r .writable ≡ true → play .pending .writable ≡ true
+
+-- ALL THAT WAS READ IS LISTED: what was handed to the system, and what is pending, are the listing of what was read, where the recording is over
+pub record IsListed (start : Bytes) (output : List ℕ) (r : Play) : Type 0 where
+  pub play : Play
+  pub after : Bytes
+  pub played : IsPlayed start after play
+  pub ended : IsEnded play (after .output) output (r .pending)
+  pub listed : r .over ≡ true → (played .sent ++ ended .sent) ++ pendingBytes output (r .pending) ≡ listing (played .read)

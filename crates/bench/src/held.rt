@@ -5,7 +5,7 @@ use recording::running::LONGEST;
 ghost use mathlib.Core.Path.{_≡_};
 ghost use Prim.Native.Nat.{_+_, _≤_};
 ghost use lib.ListN.{length, take, drop};
-ghost use Rattle.bench.specs.Held.{heldBytes, IsBehind, Continues, IsReady, ReadOn};
+ghost use Rattle.bench.specs.Held.{heldBytes, heldAt, nothingHeld, behindBy, isEnd, gotBy, ReadOn, IsReady};
 
 // The bytes of the buffer from `at` up to `end`. Once a read has given nothing the input has ended, unless that read failed.
 pub(crate) struct Held {
@@ -21,14 +21,23 @@ struct Got {
     failed: bool,
 }
 
+impl Got {
+    // By the system's answer to a read into `buffer`.
+    fn by(answer: isize, buffer: &[u8]) -> Got
+        ensures { λ r. ⌜ r ≡ gotBy answer (length (now (buffer .entry))) ⌝ }
+    {
+        Got {
+            count: io::count(answer, buffer),
+            failed: answer < 0,
+        }
+    }
+}
+
 fn read_some(buffer: &mut [u8]) -> Got
     ensures { λ r. ⌜ r .count ≤ length (now (buffer .entry)) ⌝ }
 {
-    let got = libc::read(STDIN_FILENO, buffer);
-    Got {
-        count: io::count(got, buffer),
-        failed: got < 0,
-    }
+    let answer = libc::read(STDIN_FILENO, buffer);
+    Got::by(answer, buffer)
 }
 
 // Makes the bytes from `at` on the first ones, `n` of them.
@@ -44,7 +53,9 @@ fn to_front(buffer: &mut [u8], at: usize, n: usize)
 }
 
 impl Held {
-    pub(crate) fn nothing() -> Held {
+    pub(crate) fn nothing() -> Held
+        ensures { λ r. ⌜ r ≡ nothingHeld ⌝ }
+    {
         Held {
             at: 0,
             end: 0,
@@ -55,7 +66,7 @@ impl Held {
 
     // The same without the bytes that a record used.
     pub(crate) fn behind(self, used: usize) -> Held
-        ensures { λ r. ⌜ IsBehind used self r ⌝ }
+        ensures { λ r. ⌜ r ≡ behindBy used self ⌝ }
     {
         let left = self.end - parts::at_most(self.at, self.end);
         Held {
@@ -65,11 +76,19 @@ impl Held {
             failed: self.failed,
         }
     }
+
+    // Is no record run, since nothing can be read, or nothing is left?
+    pub(crate) fn is_end(self, bytes: &[u8]) -> bool
+        ensures { λ r. ⌜ r ≡ isEnd self (now (bytes .entry)) ⌝ }
+    {
+        self.failed || bytes.len() == 0
+    }
 }
 
-// The bytes that are held.
+// The bytes that are held, where they stand in the buffer.
 pub(crate) fn part(buffer: &[u8], held: Held) -> &[u8]
     ensures { λ r. ⌜ now r ≡ heldBytes (now (buffer .entry)) held ⌝ }
+    ensures { λ r. ⌜ r .ptr .1 ≡ buffer .entry .ptr .1 + heldAt (length (now (buffer .entry))) held ⌝ }
 {
     let end = parts::at_most(held.end, buffer.len());
     let at = parts::at_most(held.at, end);
@@ -105,8 +124,7 @@ fn read_on(buffer: &mut [u8], kept: usize) -> Held
 // Holds the longest record, or all that is left. What is held is moved to the front only where it is shorter, so a byte is moved at
 // most once for each read.
 pub(crate) fn ready(buffer: &mut [u8], held: Held) -> Held
-    ensures { λ r. ⌜ Continues (heldBytes (now (buffer .entry)) held) (heldBytes (now (buffer .exit)) r) ⌝ }
-    ensures { λ r. ⌜ IsReady (now (buffer .exit)) r ⌝ }
+    ensures { λ r. ⌜ IsReady (now (buffer .entry)) held (now (buffer .exit)) r ⌝ }
 {
     let end = parts::at_most(held.end, buffer.len());
     let at = parts::at_most(held.at, end);

@@ -1,176 +1,189 @@
 // Plays a recording: reads it from standard input, runs its records on one session and writes the listing to standard output.
 use held::Held;
 use libc::STDERR_FILENO;
-use lines::Line;
+use listing::turns;
+use listing::turns::Turn;
 use pending::Pending;
-use recording::running;
-use recording::running::Ran;
-use session::operations;
+ghost use mathlib.Core.Bool.{true};
 ghost use mathlib.Core.Path.{_≡_};
-ghost use Prim.Native.Nat.{_+_, _≤_};
+ghost use Prim.Native.Nat.{_+_, _≤_, _<_, _^_};
 ghost use lib.ListN.{length};
-ghost use Rattle.bench.specs.Playing.{bytes, isLast, stoppedAt, IsRecorded, IsStep};
-ghost use Rattle.lines.specs.Line.{lineOf};
-ghost use Rattle.recording.specs.Listing.{accepted};
-ghost use Rattle.store.specs.Layout.{sessionBytes};
-ghost use Rattle.recording.specs.Listing.{lineOf as textFor};
+ghost use Rattle.lines.specs.Line.{room};
+ghost use Rattle.lines.specs.Text.{runLine};
+ghost use Rattle.recording.specs.Recorded.{emptySession};
+ghost use Rattle.listing.specs.Turns.{putAt};
+ghost use Rattle.bench.specs.Playing.{bytes, begunPlay, goesOn, stoppedAt, CanGoOn, RunsFirst, IsTurn, IsPlayed, IsEnded, IsListed};
 
 mod held;
 mod parts;
 mod pending;
 
-// A play between two records.
+// A play between two records. It is over once its last record is listed.
 struct Play {
     held: Held,
     pending: Pending,
     lines: u64,
     accepted: u64,
-    stopped: bool,
-}
-
-// The bytes of a session.
-fn session_bytes() -> [u8; 24704]
-    ensures { λ r. ⌜ sessionBytes ≡ length r ⌝ }
-{
-    [0; 24704]
-}
-
-fn line_of(ran: Ran) -> Line
-    ensures { λ r. ⌜ r ≡ lineOf (textFor ran) ⌝ }
-{
-    lines::record_line(
-        ran.number,
-        ran.kind,
-        ran.answer,
-        ran.first,
-        ran.second,
-        ran.third,
-    )
-}
-
-fn accepted_by(ran: Ran) -> u64
-    ensures { λ r. ⌜ (r ≡ accepted ran) × (r ≤ 1) ⌝ }
-{
-    if ran.answer == 0 { 1 } else { 0 }
-}
-
-// Does the play stop here? It does behind a record that is none, and where the listing can't be written.
-fn is_last(ran: Ran, pending: Pending) -> bool
-    ensures { λ r. ⌜ r ≡ isLast ran pending ⌝ }
-{
-    ran.kind == 0 || !pending.open
+    over: bool,
 }
 
 // A play before its first record.
 fn begun(output: &mut [u8]) -> Play
-    ensures { λ r. ⌜ r .accepted ≡ 0 ⌝ }
+    ensures { λ r. ⌜ r ≡ begunPlay ⌝ }
+    ensures { λ _. ⌜ now (output .exit) ≡ putAt (now (output .entry)) 0 runLine ⌝ }
 {
-    let pending = pending::put(output, Pending::nothing(), lines::run_line());
+    let length = turns::begin(output, 0);
     Play {
         held: Held::nothing(),
-        pending: pending,
+        pending: Pending::nothing().with(length),
         lines: 0,
         accepted: 0,
-        stopped: false,
+        over: false,
     }
 }
 
-// The same play at its end.
-fn stopped(play: Play, held: Held) -> Play
-    ensures { λ r. ⌜ r ≡ stoppedAt play held ⌝ }
+// Does it go on? It stops where it is over, and where nothing can be read or written.
+fn goes_on(play: Play) -> bool
+    ensures { λ r. ⌜ r ≡ goesOn play ⌝ }
 {
+    let held = play.held;
     let pending = play.pending;
+    if play.over {
+        return false;
+    }
+    if held.failed {
+        return false;
+    }
+    pending.writable
+}
+
+// The same play where no record is run.
+fn stopped(play: Play, held: Held, pending: Pending) -> Play
+    ensures { λ r. ⌜ r ≡ stoppedAt play held pending ⌝ }
+{
     Play {
         held: held,
         pending: pending,
         lines: play.lines,
         accepted: play.accepted,
-        stopped: true,
+        over: !held.failed,
     }
 }
 
-// The line of a record that was run is put; `held` is what stands behind it.
-fn recorded(play: Play, held: Held, ran: Ran, output: &mut [u8]) -> Play
-    requires { ⌜ play .accepted ≤ 4294967295 ⌝ }
-    ensures { λ r. ⌜ IsRecorded play held ran (now (output .entry)) (now (output .exit)) r ⌝ }
+// The first record of what is held is run, and its line put. The play stops where nothing is left or nothing can be read.
+fn run_first(
+    play: Play,
+    held: Held,
+    pending: Pending,
+    first: &[u8],
+    session: &mut [u8],
+    output: &mut [u8],
+) -> Play
+    requires { ⌜ CanGoOn play × (pending .filled + room ≤ length (now output)) ⌝ }
+    ensures { λ r.
+        ⌜ RunsFirst play held pending (now (first .entry)) (now (session .entry)) (now (output .entry)) (now (session .exit))
+        (now (output .exit)) r ⌝ }
 {
-    let earlier = play.pending;
-    let pending = pending::put(output, earlier, line_of(ran));
+    if held.is_end(first) {
+        return stopped(play, held, pending);
+    }
+    let turn = turns::next(session, first, play.lines as u32, output, pending.filled);
+    Play {
+        held: held.behind(turn.used),
+        pending: pending.with(turn.length),
+        lines: play.lines + 1,
+        accepted: play.accepted + turn.accepted,
+        over: turn.last,
+    }
+}
+
+// One turn: more of the recording is read where too little is held, and what is pending is written where a line has no room.
+fn step(play: Play, session: &mut [u8], input: &mut [u8], output: &mut [u8]) -> Play
+    requires { ⌜ CanGoOn play × (room ≤ length (now output)) ⌝ }
+    ensures { λ r.
+        ⌜ IsTurn play (bytes (now (session .entry)) (now (input .entry)) (now (output .entry)))
+        (bytes (now (session .exit)) (now (input .exit)) (now (output .exit))) r ⌝ }
+{
+    let earlier = play.held;
+    let waiting = play.pending;
+    let held = held::ready(input, earlier);
+    let pending = pending::with_room(output, waiting);
+    run_first(
+        play,
+        held,
+        pending,
+        held::part(input, held),
+        session,
+        output,
+    )
+}
+
+// Plays record after record. Behind the most records that a recording can have, another one is none, and the play is over.
+fn played(session: &mut [u8], input: &mut [u8], output: &mut [u8]) -> Play
+    requires { ⌜ room ≤ length (now output) ⌝ }
+    ensures { λ r.
+        ⌜ IsPlayed (bytes (now (session .entry)) (now (input .entry)) (putAt (now (output .entry)) 0 runLine))
+        (bytes (now (session .exit)) (now (input .exit)) (now (output .exit))) r ⌝ }
+{
+    let mut play = begun(output);
+    while goes_on(play) {
+        play = step(play, session, input, output);
+    }
+    play
+}
+
+// The last line, where the recording is over.
+fn with_end(output: &mut [u8], play: Play) -> Pending
+    requires { ⌜ room ≤ length (now output) ⌝ }
+    ensures { λ r. ⌜ IsEnded play (now (output .entry)) (now (output .exit)) r ⌝ }
+{
+    let waiting = play.pending;
+    if !play.over {
+        return waiting;
+    }
+    let pending = pending::with_room(output, waiting);
+    let length = turns::end(output, pending.filled, play.lines, play.accepted);
+    pending.with(length)
+}
+
+// The whole listing, but for what is still pending.
+fn listed(session: &mut [u8], input: &mut [u8], output: &mut [u8]) -> Play
+    requires { ⌜ (now session ≡ emptySession) × (room ≤ length (now output)) ⌝ }
+    ensures { λ r. ⌜ IsListed (bytes (now (session .entry)) (now (input .entry)) (putAt (now (output .entry)) 0 runLine)) (now (output .exit)) r ⌝ }
+{
+    let play = played(session, input, output);
+    let held = play.held;
+    let pending = with_end(output, play);
     Play {
         held: held,
         pending: pending,
-        lines: ran.number,
-        accepted: play.accepted + accepted_by(ran),
-        stopped: is_last(ran, pending),
+        lines: play.lines,
+        accepted: play.accepted,
+        over: play.over,
     }
-}
-
-// The next record is run and its line put. The play stops where nothing is left or nothing can be read.
-fn step(play: Play, before: u32, session: &mut [u8], input: &mut [u8], output: &mut [u8]) -> Play
-    requires { ⌜ play .accepted ≤ before ⌝ }
-    ensures { λ r.
-        ⌜ IsStep play before (bytes (now (session .entry)) (now (input .entry)) (now (output .entry)))
-        (bytes (now (session .exit)) (now (input .exit)) (now (output .exit))) r ⌝ }
-    ensures { λ r. ⌜ r .accepted ≤ play .accepted + 1 ⌝ }
-{
-    let earlier = play.held;
-    let held = held::ready(input, earlier);
-    let first = held::part(input, held);
-    if held.failed {
-        return stopped(play, held);
-    }
-    if first.len() == 0 {
-        return stopped(play, held);
-    }
-    let ran = running::run(session, first, before);
-    let rest = held.behind(ran.used as usize);
-    recorded(play, rest, ran, output)
-}
-
-// Plays record after record. Behind the most records that a recording can have, another one is none, and stops the play.
-fn played(session: &mut [u8], input: &mut [u8], output: &mut [u8]) -> Play {
-    let mut play = begun(output);
-    for before in 0..=running::MOST_RECORDS {
-        if play.stopped {
-            break;
-        }
-        play = step(play, before, session, input, output);
-    }
-    play
 }
 
 fn say(text: &[u8]) {
     io::write_all(STDERR_FILENO, text);
 }
 
-// The last line, where the recording was read to its end.
-fn with_end(output: &mut [u8], play: Play) -> Pending {
-    let held = play.held;
-    let rest = play.pending;
-    if held.failed {
-        return rest;
-    }
-    pending::put(output, rest, lines::end_line(play.lines, play.accepted))
-}
-
 // Writes the rest of the listing. One that lacks its last line is said to.
-fn finish(output: &mut [u8], play: Play) {
+fn finish(output: &[u8], play: Play) {
     let held = play.held;
-    let rest = with_end(output, play);
-    let last = pending::written(output, rest);
+    let pending = play.pending;
+    let last = pending::written(output, pending);
     if held.failed {
         say(b"bench: the recording cannot be read\n");
     }
-    if !last.open {
+    if !last.writable {
         say(b"bench: the listing cannot be written\n");
     }
 }
 
 fn main() {
-    let mut session = session_bytes();
+    let mut session = turns::empty_session();
     let mut input = io::large_buffer();
     let mut output = io::large_buffer();
-    operations::start(&mut session);
-    let play = played(&mut session, &mut input, &mut output);
-    finish(&mut output, play);
+    let play = listed(&mut session, &mut input, &mut output);
+    finish(&output, play);
 }

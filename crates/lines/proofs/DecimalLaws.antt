@@ -1,4 +1,4 @@
--- Laws of decimal text: it stands for its number, has no zero in front, and is of digits alone. Assumes nothing.
+-- Laws of decimal text: it stands for its number, has no zero in front, and is of digits alone.
 use mathlib.Core.Path.{_≡_, refl, sym, ap, _∙_}
 use mathlib.Core.List.{List, [], _∷_, _++_}
 use Prim.Native.Nat.{ℕ, zero, suc, _+_, _-_, _*_, _/_, _%_, _^_, _≤_, _<_}

@@ -1,4 +1,4 @@
--- Laws of lines: a text behind a line, and what a line written from nothing is. Assumes nothing.
+-- Laws of lines: a text behind a line, and what a line written from nothing is.
 use mathlib.Core.Path.{_≡_, refl, sym, ap, ap₂, _∙_}
 use mathlib.Core.List.{List, [], _∷_, _++_, append-assoc, append-nil}
 use Prim.Native.Nat.{ℕ, suc, _+_, _-_, _≤_, _<_}

@@ -1,10 +1,9 @@
--- Laws of a listing's lines: there is room for each, so each is what its parts make when written in turn. Assumes nothing.
-use mathlib.Core.Path.{_≡_}
+-- Laws of a listing's lines: there is room for each, so each is what its parts make when written in turn.
 use mathlib.Core.List.{[]}
 use Prim.Native.Nat.{ℕ, _^_, _≤_, _<_}
 use native.Mathlib.Omega.{arith}
 use lib.ListN.{length, length-append}
-use Rattle.lines.specs.Line.{room, lineOf, withByte, withText}
+use Rattle.lines.specs.Line.{room, lineOf, IsLineOf, withByte, withText}
 use Rattle.lines.specs.Decimal.{decimal}
 use Rattle.lines.specs.Text.{newline, next, recordLine, endLine}
 use Rattle.lines.proofs.DecimalLaws.{decimal-length}
@@ -23,12 +22,11 @@ module _ (a b c d e f : ℕ) (ha : a < 2 ^ 64) (hb : b < 2 ^ 32) (hc : c < 2 ^ 3
   record-fits =
       simp length-append (omega (arith, long a ha, short b hb, short c hc, short d hd, short e he, short f hf))
 
-  pub record-written : withByte (withText (withText (withText (withText (withText (withText (lineOf []) (decimal a)) (next b)) (next c)) (next d)) (next e)) (next f)) newline
-      ≡ lineOf (recordLine a b c d e f)
+  pub record-written : IsLineOf
+      (withByte (withText (withText (withText (withText (withText (withText (lineOf []) (decimal a)) (next b)) (next c)) (next d)) (next e)) (next f)) newline)
+      (recordLine a b c d e f)
   unfolding recordLine withText
-  record-written =
-      let whole : withText (lineOf []) (recordLine a b c d e f) ≡ lineOf (recordLine a b c d e f) = written (recordLine a b c d e f) record-fits in
-      simp text-append at whole
+  record-written = (simp text-append at (written (recordLine a b c d e f) record-fits), record-fits)
 
 -- the last line
 module _ (a b : ℕ) (ha : a < 2 ^ 64) (hb : b < 2 ^ 64) where
@@ -36,8 +34,8 @@ module _ (a b : ℕ) (ha : a < 2 ^ 64) (hb : b < 2 ^ 64) where
   unfolding endLine next
   end-fits = simp length-append (omega (arith, long a ha, long b hb))
 
-  pub end-written : withByte (withText (withText (withByte (withByte (withByte (lineOf []) 101) 110) 100) (next a)) (next b)) newline ≡ lineOf (endLine a b)
+  pub end-written : IsLineOf
+      (withByte (withText (withText (withByte (withByte (withByte (lineOf []) 101) 110) 100) (next a)) (next b)) newline)
+      (endLine a b)
   unfolding endLine withText
-  end-written =
-      let whole : withText (lineOf []) (endLine a b) ≡ lineOf (endLine a b) = written (endLine a b) end-fits in
-      simp text-append at whole
+  end-written = (simp text-append at (written (endLine a b) end-fits), end-fits)

@@ -1,7 +1,8 @@
 -- A line in an array that has room for the longest.
 use mathlib.Core.Bool.{cond}
 use mathlib.Core.List.{List, [], _∷_, _++_}
-use Prim.Native.Nat.{ℕ, _+_, _-_}
+use mathlib.Core.Path.{_≡_}
+use Prim.Native.Nat.{ℕ, _+_, _-_, _≤_}
 use lib.Dec.{ltb}
 use lib.ListN.{length, replicate, set}
 use Rattle.lines.specs.declared.line.Line.{Line}
@@ -10,9 +11,13 @@ use Rattle.lines.specs.declared.line.Line.{Line}
 abbrev pub room : ℕ
 room = 80
 
--- a text of at most 80 bytes as a line: the text, zeros behind it, and its length
+-- a text that has room as a line: the text, zeros behind it, and its length
 unfoldable pub lineOf : List ℕ → Line
 lineOf text = record { bytes = text ++ replicate (room - length text) 0; len = length text }
+
+-- a line is that of a text, which has room
+abbrev pub IsLineOf : Line → List ℕ → Type 0
+IsLineOf line text = (line ≡ lineOf text) × (length text ≤ room)
 
 -- a line with a byte behind it; where there is no room, the line as it was
 unfoldable pub withByte : Line → ℕ → Line

@@ -2,13 +2,14 @@
 mod line;
 
 pub use line::Line;
+pub use line::ROOM;
 ghost use mathlib.Core.Path.{_≡_};
-ghost use Rattle.lines.specs.Line.{lineOf};
+ghost use Rattle.lines.specs.Line.{IsLineOf};
 ghost use Rattle.lines.specs.Text.{runLine, recordLine, endLine};
 
 // The first line of a listing.
 pub fn run_line() -> Line
-    ensures { λ r. ⌜ r ≡ lineOf runLine ⌝ }
+    ensures { λ r. ⌜ IsLineOf r runLine ⌝ }
 {
     Line::empty()
         .with_byte(b'r')
@@ -19,7 +20,7 @@ pub fn run_line() -> Line
 
 // The line of a record.
 pub fn record_line(number: u64, kind: u32, answer: u32, first: u32, second: u32, third: u32) -> Line
-    ensures { λ r. ⌜ r ≡ lineOf (recordLine number kind answer first second third) ⌝ }
+    ensures { λ r. ⌜ IsLineOf r (recordLine number kind answer first second third) ⌝ }
 {
     let ruled = Line::empty()
         .with_number(number)
@@ -34,7 +35,7 @@ pub fn record_line(number: u64, kind: u32, answer: u32, first: u32, second: u32,
 
 // The last line of a listing: record lines printed, records accepted.
 pub fn end_line(lines: u64, accepted: u64) -> Line
-    ensures { λ r. ⌜ r ≡ lineOf (endLine lines accepted) ⌝ }
+    ensures { λ r. ⌜ IsLineOf r (endLine lines accepted) ⌝ }
 {
     let word = Line::empty()
         .with_byte(b'e')

@@ -7,7 +7,7 @@ ghost use Rattle.lines.specs.Line.{lineOf, withByte, withText};
 ghost use Rattle.lines.specs.Text.{next};
 
 // More than the longest line has: 20 digits, five times a space and 10 digits, and the newline.
-const ROOM: usize = 80;
+pub const ROOM: usize = 80;
 
 const SPACE: u8 = b' ';
 

@@ -1,4 +1,4 @@
--- What is known of a record that is whole. Assumes nothing.
+-- What is known of a record that is whole.
 use mathlib.Core.Bool.{Bool, true, _&&_}
 use mathlib.Core.Path.{_≡_, refl, ap}
 use mathlib.Core.List.{List}

@@ -4,5 +4,4 @@ pub mod FormLaws
 pub mod GroundLaws
 pub mod RunLaws
 pub mod RecordLaws
-pub mod ListingLaws
 pub mod RecordedLaws

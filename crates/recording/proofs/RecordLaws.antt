@@ -1,4 +1,4 @@
--- WHAT FOLLOWS A RECORD CHANGES NOTHING: a reader may hold more than one record, and never needs more than the longest. Assumes nothing.
+-- WHAT FOLLOWS A RECORD CHANGES NOTHING: a reader may hold more than one record, and never needs more than the longest.
 use mathlib.Core.Bool.{true, cond, _&&_}
 use mathlib.Core.Logic.{_⊎_, inl, inr}
 use mathlib.Core.Path.{_≡_, sym, ap, ap₂, _∙_}

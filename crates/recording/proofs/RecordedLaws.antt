@@ -1,19 +1,28 @@
--- DEMAND 3 OF A RECORDING: its records are calls of the session, so the demand holds of what it leaves. Assumes nothing.
+-- DEMAND 3 OF A RECORDING: its records are calls of the session, so the demand holds of what it leaves.
 use mathlib.Core.Bool.{Bool, true, false}
-use mathlib.Core.Path.{_≡_, refl, sym, subst}
+use mathlib.Core.Path.{_≡_, refl, sym, ap, subst, _∙_}
 use mathlib.Core.List.{List}
 use Prim.Native.Nat.{ℕ, zero, suc, _+_}
 use lib.ListN.{length, drop, length-replicate}
 use Rattle.replay.specs.Demand3.{Demand3}
+use Rattle.store.specs.Emptied.{emptied}
 use Rattle.store.specs.Layout.{sessionBytes}
+use Rattle.session.specs.Answers.{startAfter}
+use Rattle.session.proofs.OperationLaws.{is-session}
 use Rattle.standing.specs.Calls.{history, bytesAfterAll}
 use Rattle.standing.specs.Standing.{bytesLeft, session}
 use Rattle.standing.proofs.Theorem.{demand3-from-start}
 use Rattle.recording.specs.Records.{recordLength, callOf}
 use Rattle.recording.specs.Running.{isRun, bytesAfterRecord}
-use Rattle.recording.specs.Listing.{zeros, emptySession}
-use Rattle.recording.specs.Recorded.{callsIn, leftBy, recordedCalls, sessionAfter}
-use Rattle.recording.proofs.ListingLaws.{start-empty}
+use Rattle.recording.specs.Recorded.{zeros, emptySession, callsIn, leftBy, recordedCalls, sessionAfter}
+
+started : (bs : List ℕ) → length bs ≡ sessionBytes → startAfter bs ≡ zeros (length bs)
+unfolding startAfter emptied zeros
+started bs e = is-session bs (emptied bs) bs e
+
+-- what `start` makes is the empty session
+pub start-empty : (bs : List ℕ) → length bs ≡ sessionBytes → startAfter bs ≡ emptySession
+start-empty bs e = started bs e ∙ ap zeros e
 
 -- the bytes behind the first record
 abbrev behind : List ℕ → List ℕ

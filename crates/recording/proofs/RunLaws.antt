@@ -1,8 +1,9 @@
--- A record that is run, and one that is not. Assumes nothing.
+-- A record that is run, and one that is not.
 use mathlib.Core.Bool.{Bool, true, false, cond}
 use mathlib.Core.Path.{_≡_, refl, sym, ap, _∙_}
 use mathlib.Core.List.{List}
-use Prim.Native.Nat.{ℕ, _≤_}
+use Prim.Native.Nat.{ℕ, _≤_, _<_}
+use borrow.Author.Tests.{ltb-true}
 use lib.Dec.{ltb}
 use lib.ListN.{length}
 use Rattle.replay.specs.Demand3.{Call, op, back}
@@ -37,6 +38,11 @@ module _ (held : List ℕ) (before : ℕ) where
   pub run-record : isRun held before ≡ true → isRecord held ≡ true
   unfolding isRun
   run-record e = both (ltb before mostRecords) (isRecord held) e .1
+
+  -- and not past the last
+  pub run-few : isRun held before ≡ true → before < mostRecords
+  unfolding isRun
+  run-few e = ltb-true before mostRecords (both (ltb before mostRecords) (isRecord held) e .0)
 
   pub run-whole : isRun held before ≡ true → recordLength held ≤ length held
   run-whole e = record-whole held (run-record e)

@@ -1,5 +1,4 @@
 pub mod Kinds
 pub mod Records
 pub mod Running
-pub mod Listing
 pub mod Recorded

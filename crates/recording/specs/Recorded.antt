@@ -1,13 +1,21 @@
--- The calls that a recording makes on a session, and the session's bytes after them: what demand 3 speaks of.
+-- The empty session that a recording is run from, the calls that it makes, and the session's bytes after them: what demand 3 speaks of.
 use mathlib.Core.Bool.{cond}
 use mathlib.Core.List.{List, [], _∷_}
 use Prim.Native.Nat.{ℕ, zero, suc, _+_}
-use lib.ListN.{length, drop}
+use lib.ListN.{length, drop, replicate}
 use Rattle.replay.specs.Demand3.{Call}
 use Rattle.rules.specs.Rules.{Op}
+use Rattle.store.specs.Layout.{sessionBytes}
 use Rattle.recording.specs.Records.{recordLength, callOf}
 use Rattle.recording.specs.Running.{isRun, bytesAfterRecord}
-use Rattle.recording.specs.Listing.{emptySession}
+
+-- so many zeros
+unfoldable pub zeros : ℕ → List ℕ
+zeros n = replicate n 0
+
+-- the bytes of an empty session
+abbrev pub emptySession : List ℕ
+emptySession = zeros sessionBytes
 
 -- the calls of the records that are held, up to one that is not run, where so many came before; the bound is on the number of records
 unfoldable pub callsIn : ℕ → List ℕ → ℕ → List (Call Op)

@@ -1,4 +1,4 @@
--- `lines::end_line` meets its contract. Assumes nothing.
+-- `lines::end_line` meets its contract.
 use borrow.Author.Needs.{needs}
 use Rattle.lines.proofs.TextLaws.{end-written}
 use Rattle.lines.proofs.end_line.Statement.{statement}

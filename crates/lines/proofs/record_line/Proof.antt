@@ -1,4 +1,4 @@
--- `lines::record_line` meets its contract. Assumes nothing.
+-- `lines::record_line` meets its contract.
 use borrow.Author.Needs.{needs}
 use Rattle.lines.proofs.TextLaws.{record-written}
 use Rattle.lines.proofs.record_line.Statement.{statement}

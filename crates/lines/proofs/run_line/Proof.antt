@@ -1,4 +1,4 @@
--- `lines::run_line` meets its contract. Assumes nothing.
+-- `lines::run_line` meets its contract.
 use borrow.Author.Needs.{needs}
 use mathlib.Core.Path.{_≡_, sym, _∙_}
 use native.Mathlib.Omega.{arith}
@@ -18,7 +18,7 @@ returns c =
       c .before .before .before .with-byte .ensures,
       c .before .before .before .before .empty .ensures,
     )
-    (written runLine (omega arith))
+    (written runLine (omega arith), omega arith)
 
 pub run-line-spec : {M : Type 1} → statement M
 run-line-spec =

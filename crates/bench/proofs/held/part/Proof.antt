@@ -1,4 +1,7 @@
--- `bench::held::part` meets its contract. Assumes nothing.
+-- `bench::held::part` meets its contract.
+use mathlib.Core.Path.{ap, _∙_}
+use Prim.Native.Nat.{min}
+use native.Mathlib.Omega.{arith}
 use borrow.Author.Needs.{needs}
 use Rattle.bench.specs.Held.{stretch}
 use Rattle.bench.proofs.HeldLaws.{stretch-within}
@@ -9,7 +12,11 @@ returns : tie.Need-returns
 unfolding stretch
 returns c =
     let a = c .before .before .before .before .args in
-    stretch-within (a .buffer .now) (a .held .at) (a .held .end) _ _ (c .before .before .at-most .ensures .1) (c .before .at-most2 .ensures .1)
+    let end = c .before .before .at-most .ensures .1 in
+    let at = c .before .at-most2 .ensures .1 in (
+      stretch-within (a .buffer .now) (a .held .at) (a .held .end) _ _ end at,
+      omega (arith, at ∙ ap (min (a .held .at)) end),
+    )
 
 pub part-spec : {M : Type 1} → statement M
 part-spec =

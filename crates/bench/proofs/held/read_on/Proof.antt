@@ -1,9 +1,11 @@
--- `bench::held::read_on` meets its contract, and ends: each read brings the end nearer to the longest record's. Assumes nothing.
-use mathlib.Core.Path.{_≡_, refl, _∙_}
+-- `bench::held::read_on` meets its contract, and ends: each read brings the end nearer to the longest record's.
+use mathlib.Core.Path.{_≡_, refl, sym, _∙_}
 use Prim.Native.Nat.{ℕ, _≤_, _-_}
 use native.Mathlib.Omega.{arith}
 use lib.ListN.{length, take}
 use borrow.Author.Needs.{needs}
+use borrow.Author.Tests.{lt-ltb, le-ltb}
+use Rattle.recording.specs.Records.{longest}
 use Rattle.bench.proofs.HeldLaws.{read-keeps}
 use Rattle.bench.proofs.held.read_on.Statement.{statement}
 use Rattle.bench.proofs.held.read_on.Tie as tie
@@ -13,7 +15,7 @@ Inv-loop buffer₀ kept end₀ buffer end =
     (kept ≤ end) × (end ≤ length buffer) × (length buffer ≡ length buffer₀) × (take kept buffer ≡ take kept buffer₀)
 
 abbrev μ-loop : tie.MeasureT-loop
-μ-loop buffer₀ kept end₀ buffer end = 101 - end
+μ-loop buffer₀ kept end₀ buffer end = longest - end
 
 loop-holds : tie.Need-loop-holds Inv-loop μ-loop
 loop-holds c = (omega arith, c .before .pre, refl, refl)
@@ -25,7 +27,8 @@ returns c =
       more = l .inv .0;
       inside = search needs;
       same = read-keeps (l .buffer) (c .before .before .before .before .read-some .last .0) _ (l .end) (length (l .buffer) - l .end) (l .inv .0) (l .inv .1) ∙ l .inv .3;
-      enough = λ more. let z : _≡_ {A = ℕ} 0 1 = cc in absurd (omega arith);
+      ended = sym (lt-ltb (l .end) longest (c .before .before .before .before .before .before .loop-test .taken));
+      failed = λ more. let z : _≡_ {A = ℕ} 0 1 = cc in absurd (omega arith);
     }
 
 loop-again : tie.Need-loop-again Inv-loop μ-loop
@@ -44,7 +47,8 @@ returns-2 c =
       more = l .inv .0;
       inside = l .inv .1;
       same = l .inv .3;
-      enough = λ more. c .loop-test .left;
+      ended = sym (le-ltb (l .end) longest (c .loop-test .left));
+      failed = λ more. refl;
     }
 
 pub read-on-spec : {M : Type 1} → statement M

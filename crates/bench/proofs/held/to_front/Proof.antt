@@ -1,4 +1,4 @@
--- `bench::held::to_front` meets its contract. The invariant: the first i bytes are moved, and those behind are as they were. Assumes nothing.
+-- `bench::held::to_front` meets its contract. The invariant: the first i bytes are moved, and those behind are as they were.
 use mathlib.Core.Path.{_≡_, refl}
 use Prim.Native.Nat.{_≤_, _<_, _+_, _-_}
 use native.Mathlib.Omega.{arith}

@@ -1,4 +1,4 @@
--- `recording::records::is_record` meets its contract. Assumes nothing.
+-- `recording::records::is_record` meets its contract.
 use mathlib.Core.Path.{_≡_, sym, ap, _∙_}
 use Prim.Native.Nat.{ℕ}
 use native.Mathlib.Omega.{arith}

@@ -1,4 +1,4 @@
--- `recording::records::payload_length` meets its contract. Assumes nothing.
+-- `recording::records::payload_length` meets its contract.
 use mathlib.Core.Path.{sym}
 use Rattle.recording.specs.Kinds.{among, payloadLength}
 use Rattle.recording.proofs.KindLaws.{payload-none}

@@ -1,4 +1,4 @@
--- `recording::records::record_length` meets its contract. Assumes nothing.
+-- `recording::records::record_length` meets its contract.
 use mathlib.Core.Path.{ap, _∙_}
 use Prim.Native.Nat.{ℕ, _+_}
 use native.Mathlib.Omega.{arith}

@@ -1,4 +1,4 @@
--- `recording::running::is_run` meets its contract. Assumes nothing.
+-- `recording::running::is_run` meets its contract.
 use borrow.Author.Tests.{lt-ltb, le-ltb}
 use Rattle.recording.specs.Running.{isRun, mostRecords}
 use borrow.Author.Needs.{needs}

@@ -1,4 +1,4 @@
--- `recording::running::run` meets its contract. Assumes nothing.
+-- `recording::running::run` meets its contract.
 use mathlib.Core.Path.{_≡_, sym, ap₂, _∙_}
 use mathlib.Core.Bool.{true}
 use Prim.Native.Nat.{ℕ}

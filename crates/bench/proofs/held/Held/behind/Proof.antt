@@ -1,13 +1,13 @@
--- `bench::held::Held::behind` meets its contract. Assumes nothing.
+-- `bench::held::Held::behind` meets its contract.
 use borrow.Author.Needs.{needs}
-use Rattle.bench.proofs.HeldLaws.{stretch-behind}
+use Rattle.bench.proofs.HeldLaws.{behind-by}
 use Rattle.bench.proofs.held.Held.behind.Statement.{statement}
 use Rattle.bench.proofs.held.Held.behind.Tie as tie
 
 returns : tie.Need-returns
-returns c buffer =
+returns c =
     let a = c .before .before .before .before .args in
-    stretch-behind buffer (a .self .at) (a .self .end) (a .used) _ _ (c .before .before .before .at-most .ensures .1) (c .at-most2 .ensures .1)
+    behind-by (a .self) (a .used) _ _ (c .before .before .before .at-most .ensures .1) (c .at-most2 .ensures .1)
 
 pub behind-spec : {M : Type 1} → statement M
 behind-spec =

@@ -1,4 +1,4 @@
--- `lines::line::Line::with_number` meets its contract. The measure is the number: the one above its last digit is smaller. Assumes nothing.
+-- `lines::line::Line::with_number` meets its contract. The measure is the number: the one above its last digit is smaller.
 use borrow.Author.Needs.{needs}
 use mathlib.Core.Path.{sym, ap, _∙_}
 use native.Mathlib.Omega.{arith}

@@ -1,4 +1,4 @@
--- `lines::line::Line::empty` meets its contract. Assumes nothing.
+-- `lines::line::Line::empty` meets its contract.
 use mathlib.Core.Path.{refl}
 use Rattle.lines.specs.Line.{lineOf}
 use Rattle.lines.proofs.line.Line.empty.Statement.{statement}

@@ -1,4 +1,4 @@
--- `lines::line::Line::with_byte` meets its contract. Assumes nothing.
+-- `lines::line::Line::with_byte` meets its contract.
 use borrow.Author.Needs.{needs}
 use borrow.Author.Tests.{lt-ltb, le-ltb}
 use Rattle.lines.specs.Line.{withByte}

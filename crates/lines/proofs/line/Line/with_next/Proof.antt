@@ -1,4 +1,4 @@
--- `lines::line::Line::with_next` meets its contract. Assumes nothing.
+-- `lines::line::Line::with_next` meets its contract.
 use borrow.Author.Needs.{needs}
 use Rattle.lines.specs.Line.{withText}
 use Rattle.lines.specs.Text.{next}

@@ -1,4 +1,4 @@
--- `recording::running::Ran::not_run` meets its contract. Assumes nothing.
+-- `recording::running::Ran::not_run` meets its contract.
 use mathlib.Core.Path.{ap, _∙_}
 use Rattle.recording.specs.Running.{runWith}
 use borrow.Author.Needs.{needs}

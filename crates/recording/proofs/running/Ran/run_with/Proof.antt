@@ -1,4 +1,4 @@
--- `recording::running::Ran::run_with` meets its contract. Assumes nothing.
+-- `recording::running::Ran::run_with` meets its contract.
 use mathlib.Core.Path.{refl}
 use borrow.Author.Needs.{needs}
 use Rattle.recording.proofs.running.Ran.run_with.Statement.{statement}

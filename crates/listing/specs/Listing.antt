@@ -4,20 +4,12 @@ use mathlib.Core.Bool.{cond}
 use mathlib.Core.List.{List, [], _∷_, _++_}
 use Prim.Native.Nat.{ℕ, zero, suc, _+_}
 use lib.Dec.{eqb}
-use lib.ListN.{length, drop, replicate}
+use lib.ListN.{length, drop}
 use Rattle.lines.specs.Text.{runLine, recordLine, endLine}
-use Rattle.store.specs.Layout.{sessionBytes}
 use Rattle.recording.specs.Records.{recordLength}
+use Rattle.recording.specs.Recorded.{emptySession}
 use Rattle.recording.specs.Running.{isRun, ranRecord, bytesAfterRecord}
 use Rattle.recording.specs.declared.running.Ran.{Ran}
-
--- so many zeros
-unfoldable pub zeros : ℕ → List ℕ
-zeros n = replicate n 0
-
--- the bytes of an empty session
-abbrev pub emptySession : List ℕ
-emptySession = zeros sessionBytes
 
 -- what the records come to that are held, the first one first, run on a session where so many came before. The bound is on the number of
 -- records: as many as there are bytes is always enough
@@ -35,27 +27,27 @@ abbrev pub ranAll : List ℕ → List ℕ → ℕ → List Ran
 ranAll bs held before = ranIn (length held) bs held before
 
 -- the line of a record
-abbrev pub lineOf : Ran → List ℕ
-lineOf r = recordLine (r .number) (r .kind) (r .answer) (r .first) (r .second) (r .third)
+abbrev pub textOf : Ran → List ℕ
+textOf r = recordLine (r .number) (r .kind) (r .answer) (r .first) (r .second) (r .third)
 
 -- a line for each
 unfoldable pub linesOf : List Ran → List ℕ
 linesOf [] = []
-linesOf (r ∷ rs) = lineOf r ++ linesOf rs
+linesOf (r ∷ rs) = textOf r ++ linesOf rs
 
 -- 1 for a record that was accepted, 0 for one that was refused
-unfoldable pub accepted : Ran → ℕ
-accepted r = cond (eqb (r .answer) 0) 1 0
+unfoldable pub oneIfAccepted : Ran → ℕ
+oneIfAccepted r = cond (eqb (r .answer) 0) 1 0
 
 -- the records that were accepted
 unfoldable pub acceptedOf : List Ran → ℕ
 acceptedOf [] = 0
-acceptedOf (r ∷ rs) = accepted r + acceptedOf rs
+acceptedOf (r ∷ rs) = oneIfAccepted r + acceptedOf rs
 
--- the lines of what is held and the last line, where some lines were written before, and some records accepted
+-- the lines of what is held and the last line, where so many records came before, and so many of them were accepted
 unfoldable pub listedFrom : List ℕ → List ℕ → ℕ → ℕ → List ℕ
-listedFrom bs held lines taken =
-    linesOf (ranAll bs held lines) ++ endLine (lines + length (ranAll bs held lines)) (taken + acceptedOf (ranAll bs held lines))
+listedFrom bs held lines accepted =
+    linesOf (ranAll bs held lines) ++ endLine (lines + length (ranAll bs held lines)) (accepted + acceptedOf (ranAll bs held lines))
 
 -- THE LISTING of a recording
 unfoldable pub listing : List ℕ → List ℕ

@@ -1,4 +1,4 @@
--- `bench::pending::put_bytes` meets its contract. The invariant: the first i bytes are put. Assumes nothing.
+-- `listing::placing::put_bytes` meets its contract. The invariant: the first i bytes are put.
 use mathlib.Core.Path.{_≡_, ap, sym, _∙_}
 use Prim.Native.Nat.{ℕ, _≤_, _<_, _+_, _-_}
 use native.Mathlib.Numerals.{add-one}
@@ -6,17 +6,17 @@ use native.Mathlib.Omega.{arith}
 use lib.ListN.{length, getD, set}
 use lib.Seq.{paste, paste-zero, paste-suc, length-paste}
 use borrow.Author.Needs.{needs}
-use Rattle.bench.proofs.pending.put_bytes.Statement.{statement}
-use Rattle.bench.proofs.pending.put_bytes.Tie as tie
+use Rattle.listing.proofs.placing.put_bytes.Statement.{statement}
+use Rattle.listing.proofs.placing.put_bytes.Tie as tie
 
 abbrev Inv-loop : tie.InvT-loop
-Inv-loop buffer₀ from n bytes i₀ buffer i = (i ≤ n) × (length buffer ≡ length buffer₀) × (n ≤ length bytes → buffer ≡ paste buffer₀ from bytes i)
+Inv-loop output₀ at n bytes i₀ output i = (i ≤ n) × (length output ≡ length output₀) × (n ≤ length bytes → output ≡ paste output₀ at bytes i)
 
 abbrev μ-loop : tie.MeasureT-loop
-μ-loop buffer₀ from n bytes i₀ buffer i = n - i
+μ-loop output₀ at n bytes i₀ output i = n - i
 
 loop-holds : tie.Need-loop-holds Inv-loop μ-loop
-loop-holds c = (omega arith, search needs, λ whole. paste-zero (c .args .buffer .now) (c .args .from) (c .args .t3))
+loop-holds c = (omega arith, search needs, λ whole. paste-zero (c .args .output .now) (c .args .at) (c .args .t3))
 
 loop-again : tie.Need-loop-again Inv-loop μ-loop
 loop-again c =
@@ -25,7 +25,7 @@ loop-again c =
       search needs,
       search needs,
       λ whole.
-          rw (l .inv .2 whole, add-one) (paste-suc (a .buffer .now) (a .from) (a .t3) (l .i) 0 (omega arith) (omega arith)),
+          rw (l .inv .2 whole, add-one) (paste-suc (a .output .now) (a .at) (a .t3) (l .i) 0 (omega arith) (omega arith)),
     )
 
 returns : tie.Need-returns Inv-loop μ-loop

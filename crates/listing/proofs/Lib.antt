@@ -1,0 +1,3 @@
+pub mod ListingLaws
+pub mod PlacingLaws
+pub mod WholeLaws
