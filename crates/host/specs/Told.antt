@@ -1,5 +1,5 @@
 -- What a session tells of itself in numbers, and that bytes of another length tell nothing.
-use mathlib.Core.Bool.{Bool, cond}
+use mathlib.Core.Bool.{cond}
 use mathlib.Core.List.{List, [], _∷_}
 use Prim.Native.Nat.{ℕ}
 use Rattle.trains.specs.Ranges.{none}
@@ -25,10 +25,6 @@ use Rattle.host.specs.declared.told.TrainAnswer.{TrainAnswer}
 -- a number that was asked of a session
 unfoldable pub numberAnswer : List ℕ → ℕ → Answer
 numberAnswer bs n = ofSession bs (acceptedWith n 0 0)
-
--- 1 for yes and 0 for no
-unfoldable pub oneIf : Bool → ℕ
-oneIf holds = cond holds 1 0
 
 -- a location, or none
 unfoldable pub locationNumber : Location → ℕ

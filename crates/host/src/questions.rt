@@ -9,12 +9,13 @@ use trains::kinds::Loco;
 use trains::kinds::Slot;
 use trains::kinds::Ticket;
 ghost use mathlib.Core.Path.{_≡_};
+ghost use Rattle.numbers.specs.Numbers.{oneIf};
 ghost use Rattle.rules.specs.Slots.{slotOf};
 ghost use Rattle.rules.specs.View.{isTaken};
 ghost use Rattle.store.specs.Stands.{bookOf, counterOf, keptOf};
 ghost use Rattle.session.specs.Answers.{endAnswerTo};
 ghost use Rattle.host.specs.Kinds.{loco, ticket};
-ghost use Rattle.host.specs.Told.{oneIf, numberAnswer, trainAnswer};
+ghost use Rattle.host.specs.Told.{numberAnswer, trainAnswer};
 
 // A number that was asked of a session.
 fn tell(session: &[u8], number: u32) -> Answer
@@ -24,12 +25,6 @@ fn tell(session: &[u8], number: u32) -> Answer
         return Answer::refused(refusals::WRONG_LENGTH);
     }
     Answer::accepted(number, 0, 0)
-}
-
-fn one_if(holds: bool) -> u32
-    ensures { λ r. ⌜ r ≡ oneIf holds ⌝ }
-{
-    if holds { 1 } else { 0 }
 }
 
 // The ticket counter.
@@ -53,7 +48,7 @@ pub extern "C" fn kb_kept(session: &[u8]) -> Answer
 pub extern "C" fn kb_is_taken(session: &[u8], slot: u32) -> Answer
     ensures { λ r. ⌜ r ≡ numberAnswer (now (session .entry)) (oneIf (isTaken (bookOf (now (session .entry))) (slotOf slot))) ⌝ }
 {
-    tell(session, one_if(questions::is_taken(session, Slot(slot))))
+    tell(session, numbers::one_if(questions::is_taken(session, Slot(slot))))
 }
 
 // The effective end of a named train.

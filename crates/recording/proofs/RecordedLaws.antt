@@ -8,17 +8,16 @@ use Rattle.replay.specs.Demand3.{Demand3}
 use Rattle.store.specs.Emptied.{emptied}
 use Rattle.store.specs.Layout.{sessionBytes}
 use Rattle.session.specs.Answers.{startAfter}
-use Rattle.session.proofs.OperationLaws.{is-session}
 use Rattle.standing.specs.Calls.{history, bytesAfterAll}
 use Rattle.standing.specs.Standing.{bytesLeft, session}
-use Rattle.standing.proofs.Theorem.{demand3-from-start}
+use Rattle.standing.proofs.Theorem.{started-is, demand3-from-start}
 use Rattle.recording.specs.Records.{recordLength, callOf}
 use Rattle.recording.specs.Running.{isRun, bytesAfterRecord}
 use Rattle.recording.specs.Recorded.{zeros, emptySession, callsIn, leftBy, recordedCalls, sessionAfter}
 
 started : (bs : List ℕ) → length bs ≡ sessionBytes → startAfter bs ≡ zeros (length bs)
-unfolding startAfter emptied zeros
-started bs e = is-session bs (emptied bs) bs e
+unfolding emptied zeros
+started bs e = sym (started-is bs e)
 
 -- what `start` makes is the empty session
 pub start-empty : (bs : List ℕ) → length bs ≡ sessionBytes → startAfter bs ≡ emptySession

@@ -8,14 +8,15 @@ use lib.Dec.{ltb}
 use lib.ListN.{length}
 use Rattle.replay.specs.Demand3.{Call, op, back}
 use Rattle.rules.specs.Rules.{Op}
+use Rattle.rules.specs.Refusals.{badRecord}
 use Rattle.rules.specs.Ruling.{refusedWith}
 use Rattle.rules.specs.declared.ruling.Answer.{Answer}
 use Rattle.session.proofs.AfterLaws.{refused-bytes, refused-back}
-use Rattle.standing.specs.Told.{answerBy}
-use Rattle.standing.proofs.ToldLaws.{told-refused, told-whole}
+use Rattle.standing.specs.Said.{answerBy}
+use Rattle.standing.proofs.SaidLaws.{said-refused, said-whole}
 use Rattle.standing.specs.Standing.{answered, bytesLeft}
 use Rattle.recording.specs.Records.{kindOf, recordLength, isRecord, callOf}
-use Rattle.recording.specs.Running.{badRecord, mostRecords, isRun, notRun, runWith, ranRecord, bytesAfterRecord}
+use Rattle.recording.specs.Running.{mostRecords, isRun, notRun, runWith, ranRecord, bytesAfterRecord}
 use Rattle.recording.specs.declared.running.Ran.{Ran}
 use Rattle.recording.proofs.KindLaws.{both}
 use Rattle.recording.proofs.GroundLaws.{answered-other}
@@ -25,7 +26,7 @@ use Rattle.recording.proofs.CallLaws.{Called}
 -- what a call answers that is refused
 plain : (bs : List ℕ) (c : Call Op) → (answered bs c .answer ≡ 0 → ⊥) → answered bs c ≡ refusedWith (answered bs c .answer)
 unfolding answerBy
-plain bs c h = sym (told-whole bs c) ∙ ap answerBy (told-refused c (answered bs c) h)
+plain bs c h = sym (said-whole bs c) ∙ ap answerBy (said-refused c (answered bs c) h)
 
 -- and the bytes that it leaves
 same : (bs : List ℕ) (c : Call Op) → (answered bs c .answer ≡ 0 → ⊥) → bytesLeft bs c ≡ bs

@@ -3,15 +3,12 @@ use mathlib.Core.Bool.{Bool, cond, _&&_}
 use mathlib.Core.List.{List}
 use Prim.Native.Nat.{ℕ, _+_}
 use lib.Dec.{ltb}
+use Rattle.rules.specs.Refusals.{badRecord}
 use Rattle.rules.specs.Ruling.{refusedWith}
 use Rattle.rules.specs.declared.ruling.Answer.{Answer}
 use Rattle.standing.specs.Standing.{answered, bytesLeft}
 use Rattle.recording.specs.Records.{kindOf, recordLength, isRecord, callOf}
 use Rattle.recording.specs.declared.running.Ran.{Ran}
-
--- the refusal of a record: wrong mark, kind or length, or cut. It comes before all others
-abbrev pub badRecord : ℕ
-badRecord = 24
 
 -- a recording has at most so many records
 abbrev pub mostRecords : ℕ

@@ -1,6 +1,7 @@
 // One record run on a lent session.
 use crate::calls;
 use crate::records;
+use rules::refusals;
 use rules::ruling::Answer;
 ghost use mathlib.Core.Path.{_≡_};
 ghost use Rattle.recording.specs.Records.{longest};
@@ -11,9 +12,6 @@ pub const LONGEST: usize = 101;
 
 // A recording has at most so many records.
 pub const MOST_RECORDS: u32 = 4294967295;
-
-// The refusal of a record: wrong mark, kind or length, or cut.
-pub const BAD_RECORD: u32 = 24;
 
 // What running a record tells: its line's six numbers, and the bytes that it used.
 #[repr(C)]
@@ -45,7 +43,7 @@ impl Ran {
     fn not_run(before: u32) -> Ran
         ensures { λ r. ⌜ r ≡ notRun before ⌝ }
     {
-        Ran::run_with(before, 0, 0, Answer::refused(BAD_RECORD))
+        Ran::run_with(before, 0, 0, Answer::refused(refusals::BAD_RECORD))
     }
 }
 

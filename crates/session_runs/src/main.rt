@@ -2,6 +2,7 @@
 // A call: a kind, the bytes of the session that are lent and the length of what follows (2 bytes each), and what follows: the call's
 // numbers, 4 bytes each, high byte first, and behind them the flags. `calls` lists the kinds. A line: the kind, and what was answered.
 use libc::STDIN_FILENO;
+use store::layout;
 ghost use mathlib.Core.Path.{_≡_};
 ghost use Prim.Native.Nat.{_<_, _≤_};
 ghost use lib.ListN.{length};
@@ -13,10 +14,8 @@ mod parts;
 const HEADER: usize = 5;
 
 // The bytes before the first start, one more than a session has.
-fn foreign_bytes() -> [u8; 24705]
-    ensures { λ r. ⌜ 24705 ≡ length r ⌝ }
-{
-    [0xAA; 24705]
+fn foreign_bytes() -> [u8; layout::SESSION + 1] {
+    [0xAA; layout::SESSION + 1]
 }
 
 // Runs the call that `s` begins with, and answers where the next one starts.

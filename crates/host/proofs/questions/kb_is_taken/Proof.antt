@@ -1,6 +1,7 @@
--- `host::questions::kb_is_taken` meets its contract. Assumes nothing.
+-- `host::questions::kb_is_taken` meets its contract.
 use mathlib.Core.Path.{ap, _∙_}
-use Rattle.host.specs.Told.{oneIf, numberAnswer}
+use Rattle.numbers.specs.Numbers.{oneIf}
+use Rattle.host.specs.Told.{numberAnswer}
 use borrow.Author.Needs.{needs}
 use Rattle.host.proofs.questions.kb_is_taken.Statement.{statement}
 use Rattle.host.proofs.questions.kb_is_taken.Tie as tie

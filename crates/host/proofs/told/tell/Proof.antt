@@ -19,7 +19,7 @@ returns c =
       front = c .before .before .before .before .front-number .ensures i;
       rear = c .before .before .before .rear-number .ensures i;
       authority = c .before .before .location-number .ensures i;
-      danger = c .before .place-number2 .ensures i;
+      danger = c .before .location-number2 .ensures i;
       orders = c .tell-orders .ensures i;
     }
 
