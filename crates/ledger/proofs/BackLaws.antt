@@ -23,8 +23,9 @@ use Rattle.store.proofs.RegisterLaws.{view-stays}
 use Rattle.store.proofs.ViewLaws.{head-in, kept-in, entry-room}
 use Rattle.trains.specs.Kinds.{lastSlot}
 use Rattle.trains.specs.Sought.{rowCount}
-use Rattle.ledger.specs.Back.{runBack, rowBack, entryBack, stepped, steppedBy}
-use Rattle.ledger.specs.Log.{Entry, undone, changeAt, takenAt, entryAt, entryIn, logOf}
+use Rattle.ledger.specs.Back.{rowBack, entryBack, stepped, steppedBy}
+use Rattle.ledger.specs.Log.{Entry, undone, changeAt, entryAt, entryIn, logOf}
+use Rattle.ledger.specs.Runs.{runMarked, runAt}
 use Rattle.ledger.specs.Settled.{headed}
 use Rattle.ledger.proofs.CopyLaws.{copied-changes, copied-row, row-copied, row-passed}
 use Rattle.ledger.proofs.EntryLaws.{mark-byte, change-stays, entry-stays, change-there, change-none}
@@ -63,12 +64,12 @@ module _ (s : List ℕ) (lent : Lent s) (p : ℕ) (l : p < depth) where
   behind = omega arith
 
   run : List ℕ
-  run = runBack s at
+  run = runMarked s (runAt s at)
 
   run-change : Changes s run bookAt lastSlot
-  unfolding run runBack
+  unfolding run runMarked
   run-change =
-      book-changes s (numberAt 1 s at) (numberAt 1 s (slotsAt at)) (markFor (takenAt s at)) (lent .bytes) (omega (arith, lent .size)) (mark-byte (takenAt s at))
+      book-changes s (numberAt 1 s at) (numberAt 1 s (slotsAt at)) (markFor (runAt s at .taken)) (lent .bytes) (omega (arith, lent .size)) (mark-byte (runAt s at .taken))
 
   lent-run : Lent run
   lent-run = lent-after lent run-change
@@ -86,12 +87,12 @@ module _ (s : List ℕ) (lent : Lent s) (p : ℕ) (l : p < depth) where
 
   -- only the book and the register change
   pub entry-back-changes : Changes s (entryBack s (entryOffset p)) bookAt (lastSlot + rowBytes * rowCount)
-  unfolding run runBack at entryAt
+  unfolding run at entryAt
   entry-back-changes = put-changes s lent (entryIn s p) first-back second-back
 
   -- the view is the entry undone
   pub entry-back-view : viewOf (entryBack s (entryOffset p)) ≡ undone (entryIn s p) (viewOf s)
-  unfolding run runBack at entryAt
+  unfolding run at entryAt
   entry-back-view = put-view s lent (entryIn s p) first-back second-back
 
 -- ---- one step

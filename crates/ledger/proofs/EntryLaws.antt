@@ -14,7 +14,6 @@ use Rattle.replay.specs.Demand3.{depth}
 use Rattle.rows.specs.Row.{rowBytes, rowAt}
 use Rattle.rules.specs.Effect.{markFor, change, noChange}
 use Rattle.rules.specs.View.{View, rowIn}
-use Rattle.rules.specs.declared.effect.Effect.{Effect}
 use Rattle.store.specs.Layout.{logAt, rowOffset, runBytes, keptRowBytes, entryBytes, entryOffset, slotsAt, markAt, changedAt, alsoAt, sessionBytes}
 use Rattle.store.specs.Lent.{Lent}
 use Rattle.store.specs.Stands.{viewOf}
@@ -22,10 +21,11 @@ use Rattle.store.proofs.Frames.{Clear, Changes, widen, next, number-changes, nu
 use Rattle.store.proofs.RegisterLaws.{view-stays}
 use Rattle.store.proofs.ViewLaws.{view-row, view-row-past, entry-room}
 use Rattle.trains.specs.Sought.{rowCount}
-use Rattle.trains.specs.declared.record.Train.{Train}
 use Rattle.ledger.specs.Copied.{rowCopied}
-use Rattle.ledger.specs.Log.{rowNow, saved, changeAt, takenAt, entryAt, entryIn}
-use Rattle.ledger.specs.Settled.{InBounds, runKept, rowKept, entryKept}
+use Rattle.ledger.specs.Log.{rowNow, changeAt, entryAt, entryIn}
+use Rattle.ledger.specs.Runs.{effectOf, runKept, runAt}
+use Rattle.ledger.specs.Settled.{rowKept, entryKept}
+use Rattle.ledger.specs.declared.runs.Run.{Run}
 use Rattle.ledger.proofs.HeaderLaws.{number-back, threePut, three-changes, first-back, second-back, third-back}
 use Rattle.ledger.proofs.CopyLaws.{copied-row, row-copied, row-copied-changes}
 
@@ -50,26 +50,24 @@ change-stays {s} {t} {at} {n} r i h =
     let row : rowAt t (i + 1) ≡ rowAt s (i + 1) = row-stays r (i + 1) (⊎-elim (λ a. inl (omega arith)) (λ a. inr (omega arith)) h) in
     λ k. cond (ltb (number k) rowCount) (change (number k) (row k)) noChange
 
+-- a run
+run-stays : {s t : List ℕ} {at n : ℕ} (r : Changes s t at n) (e : ℕ) → Clear e runBytes at n → runAt t e ≡ runAt s e
+run-stays {s} {t} {at} {n} r e h =
+    let number : (i : ℕ) → e ≤ i → i < e + runBytes → numberAt 1 t i ≡ numberAt 1 s i =
+    λ i a b. number-stays r 1 i (⊎-elim (λ x. inl (omega arith)) (λ x. inr (omega arith)) h) in
+    let start = number e (omega arith) (omega arith) in
+    let slots = number (slotsAt e) (omega arith) (omega arith) in
+    let mark = number (markAt e) (omega arith) (omega arith) in
+    λ k. record { start = record { 0 = start k }; slots = slots k; taken = not (eqb (mark k) 0) }
+
 -- an entry
 pub entry-stays : {s t : List ℕ} {at n : ℕ} (r : Changes s t at n) (e : ℕ) → Clear e entryBytes at n → entryAt t e ≡ entryAt s e
 unfolding entryAt
 entry-stays {s} {t} {at} {n} r e h =
-    let start : numberAt 1 t e ≡ numberAt 1 s e = number-stays r 1 e (⊎-elim (λ a. inl (omega arith)) (λ a. inr (omega arith)) h) in
-    let slots : numberAt 1 t (slotsAt e) ≡ numberAt 1 s (slotsAt e) =
-    number-stays r 1 (slotsAt e) (⊎-elim (λ a. inl (omega arith)) (λ a. inr (omega arith)) h) in
-    let mark : numberAt 1 t (markAt e) ≡ numberAt 1 s (markAt e) =
-    number-stays r 1 (markAt e) (⊎-elim (λ a. inl (omega arith)) (λ a. inr (omega arith)) h) in
-    let changed : changeAt t (changedAt e) ≡ changeAt s (changedAt e) =
-    change-stays r (changedAt e) (⊎-elim (λ a. inl (omega arith)) (λ a. inr (omega arith)) h) in
-    let also : changeAt t (alsoAt e) ≡ changeAt s (alsoAt e) =
-    change-stays r (alsoAt e) (⊎-elim (λ a. inl (omega arith)) (λ a. inr (omega arith)) h) in
-    λ k. record {
-      start = record { 0 = start k };
-      slots = slots k;
-      taken = not (eqb (mark k) 0);
-      changed = changed k;
-      also = also k;
-    }
+    let run = run-stays r e (⊎-elim (λ a. inl (omega arith)) (λ a. inr (omega arith)) h) in
+    let changed = change-stays r (changedAt e) (⊎-elim (λ a. inl (omega arith)) (λ a. inr (omega arith)) h) in
+    let also = change-stays r (alsoAt e) (⊎-elim (λ a. inl (omega arith)) (λ a. inr (omega arith)) h) in
+    λ k. effectOf (run k) (changed k) (also k)
 
 -- ---- a row kept
 
@@ -130,9 +128,42 @@ module _ (s : List ℕ) (lent : Lent s) (i at : ℕ) (h : i ≤ rowCount) (lo : 
       change-none (rowKept s i at) at i number-kept l ∙ (λ k. change (none k) (sym (view-row-past s i l) k)))
       (lt-or-le i rowCount)
 
+-- ---- a run kept
+
+run-is : (s : List ℕ) (run : Run) (at : ℕ)
+    → runKept s run at ≡ threePut 1 s at (slotsAt at) (markAt at) (run .start .0) (run .slots) (markFor (run .taken))
+unfolding runKept threePut
+run-is s run at = refl
+
+-- only those bytes change
+pub run-kept-changes : (s : List ℕ) (run : Run) (at : ℕ) → Lent s → Changes s (runKept s run at) at runBytes
+run-kept-changes s run at lent =
+    rw (run-is s run at)
+    (three-changes 1 s (lent .bytes) at (slotsAt at) (markAt at) (run .start .0) (run .slots) (markFor (run .taken)) refl (omega arith))
+
+-- and they read as the run
+pub run-kept-back : (s : List ℕ) (run : Run) (at : ℕ) → Lent s → at + runBytes ≤ sessionBytes → run .start .0 < 256 → run .slots < 256
+    → runAt (runKept s run at) at ≡ run
+run-kept-back s run at lent room hs hn =
+    let mark : ℕ = markFor (run .taken) in
+    let start : numberAt 1 (runKept s run at) at ≡ run .start .0 =
+    rw (run-is s run at)
+    (first-back 1 s (lent .bytes) at (slotsAt at) (markAt at) (run .start .0) (run .slots) mark refl (omega arith) (omega (arith, lent .size)) hs) in
+    let slots : numberAt 1 (runKept s run at) (slotsAt at) ≡ run .slots =
+    rw (run-is s run at)
+    (second-back 1 s (lent .bytes) at (slotsAt at) (markAt at) (run .start .0) (run .slots) mark refl (omega arith) (omega (arith, lent .size)) hn) in
+    let taken : numberAt 1 (runKept s run at) (markAt at) ≡ mark =
+    rw (run-is s run at)
+    (third-back 1 s (lent .bytes) at (slotsAt at) (markAt at) (run .start .0) (run .slots) mark refl (omega arith) (omega (arith, lent .size)) (mark-byte (run .taken))) in
+    λ k. record {
+      start = record { 0 = start k };
+      slots = slots k;
+      taken = (ap (λ (n : ℕ). not (eqb n 0)) taken ∙ mark-tells (run .taken)) k;
+    }
+
 -- ---- an entry kept
 
-module _ (s : List ℕ) (lent : Lent s) (e : Effect) (bounds : InBounds e) (p : ℕ) (l : p < depth) where
+module _ (s : List ℕ) (lent : Lent s) (run : Run) (i j p : ℕ) (hi : i ≤ rowCount) (hj : j ≤ rowCount) (l : p < depth) where
   at : ℕ
   at = entryOffset p
 
@@ -145,42 +176,33 @@ module _ (s : List ℕ) (lent : Lent s) (e : Effect) (bounds : InBounds e) (p : 
   behind = omega arith
 
   with-run : List ℕ
-  with-run = runKept s e at
+  with-run = runKept s run at
 
   with-changed : List ℕ
-  with-changed = rowKept with-run (e .changed .row) (changedAt at)
+  with-changed = rowKept with-run i (changedAt at)
 
   with-also : List ℕ
-  with-also = rowKept with-changed (e .also .row) (alsoAt at)
-
-  mark : ℕ
-  mark = markFor (not (e .taken))
-
-  run-is : with-run ≡ threePut 1 s at (slotsAt at) (markAt at) (e .start .0) (e .slots) mark
-  unfolding with-run runKept threePut mark
-  run-is = refl
+  with-also = rowKept with-changed j (alsoAt at)
 
   run-change : Changes s with-run at runBytes
-  run-change =
-      rw run-is (three-changes 1 s (lent .bytes) at (slotsAt at) (markAt at) (e .start .0) (e .slots) mark refl (omega arith))
+  unfolding with-run
+  run-change = run-kept-changes s run at lent
 
   lent-run : Lent with-run
   lent-run = lent-after lent run-change
 
   changed-change : Changes with-run with-changed (changedAt at) keptRowBytes
   unfolding with-changed
-  changed-change =
-      row-kept-changes with-run lent-run (e .changed .row) (changedAt at) (omega (arith, bounds .changed)) (omega (arith, behind)) (omega (arith, room))
+  changed-change = row-kept-changes with-run lent-run i (changedAt at) hi (omega (arith, behind)) (omega (arith, room))
 
   lent-changed : Lent with-changed
   lent-changed = lent-after lent-run changed-change
 
   also-change : Changes with-changed with-also (alsoAt at) keptRowBytes
   unfolding with-also
-  also-change =
-      row-kept-changes with-changed lent-changed (e .also .row) (alsoAt at) (bounds .also) (omega (arith, behind)) (omega (arith, room))
+  also-change = row-kept-changes with-changed lent-changed j (alsoAt at) hj (omega (arith, behind)) (omega (arith, room))
 
-  entry-is : entryKept s e (entryOffset p) ≡ with-also
+  entry-is : entryKept s run i j (entryOffset p) ≡ with-also
   unfolding entryKept with-also with-changed with-run at
   entry-is = refl
 
@@ -190,33 +212,15 @@ module _ (s : List ℕ) (lent : Lent s) (e : Effect) (bounds : InBounds e) (p : 
       (widen also-change (changedAt at) (keptRowBytes + keptRowBytes) (omega arith) (omega arith))
 
   -- only the entry's bytes change
-  pub entry-kept-changes : Changes s (entryKept s e (entryOffset p)) (entryOffset p) entryBytes
+  pub entry-kept-changes : Changes s (entryKept s run i j (entryOffset p)) (entryOffset p) entryBytes
   unfolding at
   entry-kept-changes =
       rw entry-is
       (next (widen run-change at entryBytes (omega arith) (omega arith)) (widen rows-change at entryBytes (omega arith) (omega arith)))
 
-  number-there : (i x : ℕ) → i < changedAt at → numberAt 1 (threePut 1 s at (slotsAt at) (markAt at) (e .start .0) (e .slots) mark) i ≡ x
-      → numberAt 1 with-also i ≡ x
-  number-there i x h q = number-stays rows-change 1 i (inl (omega arith)) ∙ rw run-is q
-
-  start-kept : numberAt 1 with-also at ≡ e .start .0
-  start-kept =
-      number-there at (e .start .0) (omega arith)
-      (first-back 1 s (lent .bytes) at (slotsAt at) (markAt at) (e .start .0) (e .slots) mark refl (omega arith) (omega (arith, lent .size, room)) (bounds .start))
-
-  slots-kept : numberAt 1 with-also (slotsAt at) ≡ e .slots
-  slots-kept =
-      number-there (slotsAt at) (e .slots) (omega arith)
-      (second-back 1 s (lent .bytes) at (slotsAt at) (markAt at) (e .start .0) (e .slots) mark refl (omega arith) (omega (arith, lent .size, room)) (bounds .slots))
-
-  mark-kept : takenAt with-also at ≡ not (e .taken)
-  unfolding mark
-  mark-kept =
-      ap (λ (n : ℕ). not (eqb n 0))
-      (number-there (markAt at) mark (omega arith)
-      (third-back 1 s (lent .bytes) at (slotsAt at) (markAt at) (e .start .0) (e .slots) mark refl (omega arith) (omega (arith, lent .size, room)) (mark-byte (not (e .taken)))))
-      ∙ mark-tells (not (e .taken))
+  run-back : run .start .0 < 256 → run .slots < 256 → runAt with-also at ≡ run
+  unfolding with-run
+  run-back hs hn = run-stays rows-change at (inl (omega arith)) ∙ run-kept-back s run at lent (omega (arith, room)) hs hn
 
   run-view : viewOf with-run ≡ viewOf s
   run-view = view-stays run-change (omega (arith, lent .size)) (inl (omega (arith, behind)))
@@ -224,28 +228,23 @@ module _ (s : List ℕ) (lent : Lent s) (e : Effect) (bounds : InBounds e) (p : 
   changed-view : viewOf with-changed ≡ viewOf s
   changed-view = view-stays changed-change (omega (arith, lent-run .size)) (inl (omega (arith, behind))) ∙ run-view
 
-  changed-kept : changeAt with-also (changedAt at) ≡ rowNow (viewOf s) (e .changed .row)
+  changed-kept : changeAt with-also (changedAt at) ≡ rowNow (viewOf s) i
   unfolding with-changed
   changed-kept =
       change-stays also-change (changedAt at) (inl (omega arith))
-      ∙ row-kept-back with-run lent-run (e .changed .row) (changedAt at) (omega (arith, bounds .changed)) (omega (arith, behind)) (omega (arith, room))
-      ∙ ap (λ (v : View). rowNow v (e .changed .row)) run-view
+      ∙ row-kept-back with-run lent-run i (changedAt at) hi (omega (arith, behind)) (omega (arith, room))
+      ∙ ap (λ (v : View). rowNow v i) run-view
 
-  also-kept : changeAt with-also (alsoAt at) ≡ rowNow (viewOf s) (e .also .row)
+  also-kept : changeAt with-also (alsoAt at) ≡ rowNow (viewOf s) j
   unfolding with-also
   also-kept =
-      row-kept-back with-changed lent-changed (e .also .row) (alsoAt at) (bounds .also) (omega (arith, behind)) (omega (arith, room))
-      ∙ ap (λ (v : View). rowNow v (e .also .row)) changed-view
+      row-kept-back with-changed lent-changed j (alsoAt at) hj (omega (arith, behind)) (omega (arith, room))
+      ∙ ap (λ (v : View). rowNow v j) changed-view
 
-  -- and they read as what was saved
-  pub entry-kept-back : entryIn (entryKept s e (entryOffset p)) p ≡ saved (viewOf s) e
-  unfolding at saved entryAt
-  entry-kept-back =
+  -- and they read as the run and the rows
+  pub entry-kept-back : run .start .0 < 256 → run .slots < 256
+      → entryIn (entryKept s run i j (entryOffset p)) p ≡ effectOf run (rowNow (viewOf s) i) (rowNow (viewOf s) j)
+  unfolding at entryAt
+  entry-kept-back hs hn =
       rw entry-is
-      (λ k. record {
-        start = record { 0 = start-kept k };
-        slots = slots-kept k;
-        taken = mark-kept k;
-        changed = changed-kept k;
-        also = also-kept k;
-      })
+      (λ k. effectOf (run-back hs hn k) (changed-kept k) (also-kept k))

@@ -8,3 +8,4 @@ pub mod LogLaws
 pub mod SettledLaws
 pub mod BackLaws
 pub mod BoundsLaws
+pub mod TidyLaws

@@ -14,10 +14,10 @@ use Rattle.trains.proofs.RangeLaws.{one-to}
 use Rattle.rules.specs.Effect.{slotMarked, marked}
 use Rattle.store.specs.Layout.{bookAt, registerAt}
 use Rattle.store.specs.Stands.{bookOf}
-use Rattle.store.proofs.BookLaws.{length-marked, marked-past, marked-zero, marked-suc, length-book, book-back, book-same, book-twice, book-byte}
-use Rattle.store.proofs.Frames.{Changes, bytes-marked}
+use Rattle.store.proofs.BookLaws.{length-marked, marked-below, marked-past, marked-zero, marked-suc, length-book, book-back, book-same, book-twice, book-byte}
+use Rattle.store.proofs.Frames.{Changes}
 use Rattle.store.proofs.Stretches.{Outside, sets-out, bytes-sets, bytes-stretch}
-use Rattle.ledger.specs.Settled.{bookMarked}
+use Rattle.ledger.specs.Runs.{bookMarked}
 use Rattle.ledger.proofs.Sizes.{length-book-marked}
 
 module _ (bs : List ℕ) (room : registerAt ≤ length bs) where
@@ -66,7 +66,7 @@ module _ (bs : List ℕ) (room : registerAt ≤ length bs) where
 bytes-book-marked : (s : List ℕ) (slot n mark : ℕ) → Bytes s → mark < 256 → Bytes (bookMarked s slot n mark)
 unfolding bookMarked
 bytes-book-marked s slot n mark h m =
-    bytes-sets s bookAt (marked (bookOf s) slot n mark) h (bytes-marked (bookOf s) slot n mark (bytes-stretch s lastSlot bookAt h) m)
+    bytes-sets s bookAt (marked (bookOf s) slot n mark) h (marked-below 256 (bookOf s) slot n mark (bytes-stretch s lastSlot bookAt h) m)
 
 -- only the book changes
 pub book-changes : (s : List ℕ) (slot n mark : ℕ) → Bytes s → registerAt ≤ length s → mark < 256

@@ -25,7 +25,8 @@ use Rattle.store.proofs.ViewLaws.{view-rows}
 use Rattle.trains.specs.Kinds.{lastSlot}
 use Rattle.trains.specs.Sought.{rowCount}
 use Rattle.trains.specs.declared.record.Train.{Train}
-use Rattle.ledger.specs.Settled.{bookMarked, changePut}
+use Rattle.ledger.specs.Runs.{runOf, runMarked}
+use Rattle.ledger.specs.Settled.{changePut}
 use Rattle.ledger.proofs.EntryLaws.{mark-byte}
 use Rattle.ledger.proofs.MarkLaws.{book-marked, book-changes}
 
@@ -76,26 +77,26 @@ written s c lent f =
 
 module _ (s : List ℕ) (lent : Lent s) (e : Effect) where
   booked : List ℕ
-  booked = bookMarked s (e .start .0) (e .slots) (markFor (e .taken))
+  booked = runMarked s (runOf e)
 
   book-change : Changes s booked bookAt lastSlot
-  unfolding booked
+  unfolding booked runMarked
   book-change =
       book-changes s (e .start .0) (e .slots) (markFor (e .taken)) (lent .bytes) (omega (arith, lent .size)) (mark-byte (e .taken))
 
-  pub lent-booked : Lent (bookMarked s (e .start .0) (e .slots) (markFor (e .taken)))
+  pub lent-booked : Lent (runMarked s (runOf e))
   unfolding booked
   lent-booked = lent-after lent book-change
 
   booked-view : viewOf booked ≡ record { rows = viewOf s .rows; book = marked (viewOf s .book) (e .start .0) (e .slots) (markFor (e .taken)) }
-  unfolding booked
+  unfolding booked runMarked
   booked-view =
       view-by booked (viewOf s .rows) (marked (viewOf s .book) (e .start .0) (e .slots) (markFor (e .taken)))
       (rows-stay book-change (inr (omega arith)))
       (book-marked s (omega (arith, lent .size)) (e .start .0) (e .slots) (markFor (e .taken))
       ∙ ap (λ (b : List ℕ). marked b (e .start .0) (e .slots) (markFor (e .taken))) (sym (view-book s)))
 
-  module _ {t u : List ℕ} (one : RowPut (bookMarked s (e .start .0) (e .slots) (markFor (e .taken))) t (e .changed)) (two : RowPut t u (e .also)) where
+  module _ {t u : List ℕ} (one : RowPut (runMarked s (runOf e)) t (e .changed)) (two : RowPut t u (e .also)) where
     -- only the book and the register change
     pub put-changes : Changes s u bookAt (lastSlot + rowBytes * rowCount)
     unfolding booked

@@ -8,12 +8,13 @@ use lib.Seq.{length-sets}
 use Rattle.numbers.specs.Numbers.{numberAt, putNumber}
 use Rattle.numbers.proofs.FieldLaws.{length-put}
 use Rattle.rules.specs.Effect.{markFor, marked}
-use Rattle.store.specs.Layout.{wordBytes, counterAt, keptAt, headAt, bookAt, rowOffset, slotsAt, changedAt, alsoAt}
+use Rattle.store.specs.Layout.{wordBytes, counterAt, keptAt, headAt, bookAt, rowOffset, changedAt, alsoAt}
 use Rattle.store.specs.Stands.{bookOf}
 use Rattle.trains.specs.declared.kinds.Ticket.{Ticket}
-use Rattle.ledger.specs.Back.{runBack, rowBack, entryBack, stepped}
-use Rattle.ledger.specs.Log.{takenAt}
-use Rattle.ledger.specs.Settled.{headed, bookMarked}
+use Rattle.ledger.specs.Back.{rowBack, entryBack, stepped}
+use Rattle.ledger.specs.Runs.{bookMarked, runMarked, runAt}
+use Rattle.ledger.specs.Settled.{headed}
+use Rattle.ledger.specs.declared.runs.Run.{Run}
 use Rattle.ledger.proofs.CopyLaws.{length-row-copied}
 
 pub length-number : (n : ℕ) (bs : List ℕ) (i x : ℕ) → length (putNumber n bs i x) ≡ length bs
@@ -34,13 +35,15 @@ pub length-row-back : (bs : List ℕ) (at : ℕ) → length (rowBack bs at) ≡ 
 unfolding rowBack
 length-row-back bs at = length-row-copied bs (numberAt 1 bs at) (at + 1) (rowOffset (numberAt 1 bs at))
 
+pub length-run-marked : (bs : List ℕ) (run : Run) → length (runMarked bs run) ≡ length bs
+unfolding runMarked
+length-run-marked bs run = length-book-marked bs (run .start .0) (run .slots) (markFor (run .taken))
+
 pub length-entry-back : (bs : List ℕ) (e : ℕ) → length (entryBack bs e) ≡ length bs
-unfolding entryBack runBack
+unfolding entryBack
 length-entry-back bs e =
-    let run : List ℕ = bookMarked bs (numberAt 1 bs e) (numberAt 1 bs (slotsAt e)) (markFor (takenAt bs e)) in
-    length-row-back (rowBack run (changedAt e)) (alsoAt e)
-    ∙ length-row-back run (changedAt e)
-    ∙ length-book-marked bs (numberAt 1 bs e) (numberAt 1 bs (slotsAt e)) (markFor (takenAt bs e))
+    let run : List ℕ = runMarked bs (runAt bs e) in
+    length-row-back (rowBack run (changedAt e)) (alsoAt e) ∙ length-row-back run (changedAt e) ∙ length-run-marked bs (runAt bs e)
 
 pub length-stepped : (bs : List ℕ) → length (stepped bs) ≡ length bs
 unfolding stepped

@@ -1,3 +1,4 @@
+pub mod Runs
 pub mod Log
 pub mod Copied
 pub mod Settled

@@ -1,10 +1,10 @@
 -- The log: what an entry keeps before an operation, how it is undone, and the entries in a session's bytes. An entry is itself an effect, the
 -- one that undoes the operation: the run of slots with its mark before, and the rows as they were.
-use mathlib.Core.Bool.{Bool, true, cond, not}
+use mathlib.Core.Bool.{true, cond, not}
 use mathlib.Core.List.{List}
 use mathlib.Core.Path.{_≡_}
 use Prim.Native.Nat.{ℕ, _+_, _≤_, _<_}
-use lib.Dec.{eqb, ltb}
+use lib.Dec.{ltb}
 use Rattle.numbers.specs.Numbers.{numberAt}
 use Rattle.replay.specs.Demand3.{depth}
 use Rattle.replay.specs.Ring.{readBack}
@@ -13,11 +13,12 @@ use Rattle.rules.specs.Effect.{markFor, change, noChange, applied}
 use Rattle.rules.specs.View.{View, rowIn, markOf}
 use Rattle.rules.specs.declared.effect.Change.{Change}
 use Rattle.rules.specs.declared.effect.Effect.{Effect}
-use Rattle.store.specs.Layout.{entryOffset, slotsAt, markAt, changedAt, alsoAt}
+use Rattle.store.specs.Layout.{entryOffset, changedAt, alsoAt}
 use Rattle.store.specs.Stands.{keptOf, headOf}
 use Rattle.trains.specs.Kinds.{slotInRange}
 use Rattle.trains.specs.Sought.{rowCount}
 use Rattle.trains.specs.declared.kinds.Slot.{Slot}
+use Rattle.ledger.specs.Runs.{effectOf, runBefore, runAt}
 
 -- what an entry keeps: a run of slots and whether it was taken, a row as it was, and a second one where there is one
 abbrev pub Entry : Type 0
@@ -27,15 +28,9 @@ Entry = Effect
 abbrev pub rowNow : View → ℕ → Change
 rowNow v i = change i (rowIn v i)
 
--- what is kept before an effect is taken in: the run was marked the other way
+-- what is kept before an effect is taken in: the run as it was, and the rows
 unfoldable pub saved : View → Effect → Entry
-saved v e = record {
-  start = e .start;
-  slots = e .slots;
-  taken = not (e .taken);
-  changed = rowNow v (e .changed .row);
-  also = rowNow v (e .also .row);
-}
+saved v e = effectOf (runBefore e) (rowNow v (e .changed .row)) (rowNow v (e .also .row))
 
 -- an entry undone: the run's mark and the rows as they were
 abbrev pub undone : Entry → View → View
@@ -50,19 +45,9 @@ RunHolds v e = (slot : Slot) → slotInRange slot ≡ true → e .start .0 ≤ s
 unfoldable pub changeAt : List ℕ → ℕ → Change
 changeAt bs i = cond (ltb (numberAt 1 bs i) rowCount) (change (numberAt 1 bs i) (rowAt bs (i + 1))) noChange
 
--- whether the run of the entry that starts at e was taken
-abbrev pub takenAt : List ℕ → ℕ → Bool
-takenAt bs e = not (eqb (numberAt 1 bs (markAt e)) 0)
-
 -- the entry that starts at e
 unfoldable pub entryAt : List ℕ → ℕ → Entry
-entryAt bs e = record {
-  start = record { 0 = numberAt 1 bs e };
-  slots = numberAt 1 bs (slotsAt e);
-  taken = takenAt bs e;
-  changed = changeAt bs (changedAt e);
-  also = changeAt bs (alsoAt e);
-}
+entryAt bs e = effectOf (runAt bs e) (changeAt bs (changedAt e)) (changeAt bs (alsoAt e))
 
 -- the entry in a notch of the ring
 abbrev pub entryIn : List ℕ → ℕ → Entry

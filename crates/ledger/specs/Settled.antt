@@ -1,22 +1,22 @@
 -- AN EFFECT TAKEN INTO THE BYTES, the one way in which an accepted operation changes a session: its entry is pushed, the counter set, the slots
 -- marked and the rows put.
-use mathlib.Core.Bool.{Bool, cond, not, _&&_}
+use mathlib.Core.Bool.{Bool, cond, _&&_}
 use mathlib.Core.List.{List}
 use Prim.Native.Nat.{ℕ, suc, _+_, _<_, _≤_, min}
 use lib.Dec.{leb, ltb}
-use lib.Seq.{sets}
 use Rattle.numbers.specs.Numbers.{putNumber}
 use Rattle.replay.specs.Demand3.{depth}
 use Rattle.replay.specs.Ring.{after}
 use Rattle.rows.specs.Row.{putRow}
-use Rattle.rules.specs.Effect.{markFor, marked}
 use Rattle.rules.specs.declared.effect.Change.{Change}
 use Rattle.rules.specs.declared.effect.Effect.{Effect}
-use Rattle.store.specs.Layout.{isSession, wordBytes, counterAt, keptAt, headAt, bookAt, rowOffset, entryOffset, slotsAt, markAt, changedAt, alsoAt}
-use Rattle.store.specs.Stands.{bookOf, keptOf, headOf}
+use Rattle.store.specs.Layout.{isSession, wordBytes, counterAt, keptAt, headAt, rowOffset, entryOffset, changedAt, alsoAt}
+use Rattle.store.specs.Stands.{keptOf, headOf}
 use Rattle.trains.specs.Sought.{rowCount}
 use Rattle.trains.specs.declared.kinds.Ticket.{Ticket}
 use Rattle.ledger.specs.Copied.{rowCopied}
+use Rattle.ledger.specs.Runs.{runOf, runBefore, runMarked, runKept}
+use Rattle.ledger.specs.declared.runs.Run.{Run}
 
 -- ---- effects that can be taken in
 
@@ -33,34 +33,25 @@ inBounds e = ltb (e .changed .row) rowCount && (leb (e .also .row) rowCount && (
 
 -- ---- the entry pushed
 
--- the run of an effect kept in the entry that starts at a byte, with its mark before
-unfoldable pub runKept : List ℕ → Effect → ℕ → List ℕ
-runKept bs e at =
-    putNumber 1 (putNumber 1 (putNumber 1 bs at (e .start .0)) (slotsAt at) (e .slots)) (markAt at) (markFor (not (e .taken)))
-
 -- a row's number kept from a byte on, and behind it the row; of no row only the number
 unfoldable pub rowKept : List ℕ → ℕ → ℕ → List ℕ
 rowKept bs i at = rowCopied (putNumber 1 bs at i) i (rowOffset i) (at + 1)
 
--- what undoes an effect kept in the entry that starts at a byte
-unfoldable pub entryKept : List ℕ → Effect → ℕ → List ℕ
-entryKept bs e at = rowKept (rowKept (runKept bs e at) (e .changed .row) (changedAt at)) (e .also .row) (alsoAt at)
+-- a run and two rows kept in the entry that starts at a byte
+unfoldable pub entryKept : List ℕ → Run → ℕ → ℕ → ℕ → List ℕ
+entryKept bs run i j e = rowKept (rowKept (runKept bs run e) i (changedAt e)) j (alsoAt e)
 
 -- the header with these numbers
 unfoldable pub headed : List ℕ → Ticket → ℕ → ℕ → List ℕ
 headed bs counter kept head =
     putNumber wordBytes (putNumber wordBytes (putNumber wordBytes bs counterAt (counter .0)) keptAt kept) headAt head
 
--- the entry of an effect pushed, and the counter set
-unfoldable pub pushed : List ℕ → Ticket → Effect → List ℕ
-pushed bs counter e =
-    headed (entryKept bs e (entryOffset (headOf bs))) counter (min depth (suc (keptOf bs))) (after depth (headOf bs))
+-- the entry of a run and rows i and j pushed, and the counter set
+unfoldable pub pushed : List ℕ → Ticket → Run → ℕ → ℕ → List ℕ
+pushed bs counter run i j =
+    headed (entryKept bs run i j (entryOffset (headOf bs))) counter (min depth (suc (keptOf bs))) (after depth (headOf bs))
 
 -- ---- the effect put
-
--- slots marked in the session's book
-unfoldable pub bookMarked : List ℕ → ℕ → ℕ → ℕ → List ℕ
-bookMarked bs slot n mark = sets bs bookAt (marked (bookOf bs) slot n mark)
 
 -- a row put into the register, where its number is one of the register's
 unfoldable pub changePut : List ℕ → Change → List ℕ
@@ -68,11 +59,11 @@ changePut bs c = cond (ltb (c .row) rowCount) (putRow bs (rowOffset (c .row)) (c
 
 -- an effect put: its slots marked, and then its rows
 unfoldable pub effectPut : List ℕ → Effect → List ℕ
-effectPut bs e = changePut (changePut (bookMarked bs (e .start .0) (e .slots) (markFor (e .taken))) (e .changed)) (e .also)
+effectPut bs e = changePut (changePut (runMarked bs (runOf e)) (e .changed)) (e .also)
 
 -- the bytes after an accepted operation: the entry is kept before anything changes
 unfoldable pub settled : List ℕ → Ticket → Effect → List ℕ
-settled bs counter e = effectPut (pushed bs counter e) e
+settled bs counter e = effectPut (pushed bs counter (runBefore e) (e .changed .row) (e .also .row)) e
 
 -- and where the lent bytes are no session, or the effect is out of bounds, as they were
 unfoldable pub settledIn : List ℕ → Ticket → Effect → List ℕ

@@ -1,23 +1,12 @@
 // Entries undone, the latest first.
-use crate::book;
+use crate::runs;
 use store::layout;
 use store::view;
 ghost use mathlib.Core.Path.{_≡_};
 ghost use Prim.Native.Nat.{_+_, _-_, _≤_};
 ghost use lib.ListN.{length};
 ghost use Rattle.store.specs.Layout.{sessionBytes, logAt, entryBytes, keptRowBytes};
-ghost use Rattle.ledger.specs.Back.{runBack, rowBack, entryBack, stepped, steppedBy, steppedIn};
-
-// The run of the entry that starts at a byte, marked as it was.
-fn restore_run(s: &mut [u8], at: usize)
-    requires { ⌜ (length (now s) ≡ sessionBytes) × (at + entryBytes ≤ sessionBytes) ⌝ }
-    ensures { λ _. ⌜ now (s .exit) ≡ runBack (now (s .entry)) at ⌝ }
-{
-    let start = numbers::byte_at(s, at);
-    let slots = numbers::byte_at(s, at + layout::RUN_SLOTS);
-    let taken = numbers::byte_at(s, at + layout::RUN_MARK) != 0;
-    book::mark_slots(s, start, slots, book::mark_for(taken));
-}
+ghost use Rattle.ledger.specs.Back.{rowBack, entryBack, stepped, steppedBy, steppedIn};
 
 // The row that the log keeps from a byte on, put back; a number that is none of the register's restores nothing.
 fn restore_row(s: &mut [u8], at: usize)
@@ -33,7 +22,7 @@ fn restore_entry(s: &mut [u8], at: usize)
     requires { ⌜ (length (now s) ≡ sessionBytes) × (logAt ≤ at) × (at + entryBytes ≤ sessionBytes) ⌝ }
     ensures { λ _. ⌜ now (s .exit) ≡ entryBack (now (s .entry)) at ⌝ }
 {
-    restore_run(s, at);
+    runs::mark_run(s, runs::run_at(s, at));
     restore_row(s, at + layout::CHANGED);
     restore_row(s, at + layout::ALSO);
 }

@@ -1,7 +1,7 @@
 // What moves a session: an effect taken into its bytes, with the entry that undoes it kept in the log's ring, and entries undone. All
 // offsets are store's. Here is what keeping and undoing share.
 pub mod back;
-mod book;
+mod runs;
 pub mod settled;
 
 use rows::row;

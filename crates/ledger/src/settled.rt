@@ -1,5 +1,6 @@
 // An effect taken into the bytes: the entry that undoes it is kept first, then the header, the book and the rows are put.
-use crate::book;
+use crate::runs;
+use crate::runs::Run;
 use rows::row;
 use rules::effect::Change;
 use rules::effect::Effect;
@@ -12,17 +13,7 @@ ghost use Prim.Native.Nat.{_+_, _<_, _≤_};
 ghost use lib.ListN.{length};
 ghost use Rattle.trains.specs.Sought.{rowCount};
 ghost use Rattle.store.specs.Layout.{sessionBytes, logAt, entryBytes, keptRowBytes};
-ghost use Rattle.ledger.specs.Settled.{InBounds, inBounds, runKept, rowKept, entryKept, changePut, pushed, settled, settledIn};
-
-// The run of an effect, with its mark before, kept in the entry that starts at a byte.
-fn keep_run(s: &mut [u8], effect: Effect, at: usize)
-    requires { ⌜ (length (now s) ≡ sessionBytes) × (at + entryBytes ≤ sessionBytes) ⌝ }
-    ensures { λ _. ⌜ now (s .exit) ≡ runKept (now (s .entry)) effect at ⌝ }
-{
-    numbers::put_byte(s, at, effect.start.0);
-    numbers::put_byte(s, at + layout::RUN_SLOTS, effect.slots);
-    numbers::put_byte(s, at + layout::RUN_MARK, book::mark_for(!effect.taken));
-}
+ghost use Rattle.ledger.specs.Settled.{InBounds, inBounds, rowKept, entryKept, changePut, pushed, settled, settledIn};
 
 // A row's number kept in the log from a byte on, and behind it the row. Of no row only the number is kept.
 fn keep_row(s: &mut [u8], i: usize, at: usize)
@@ -34,24 +25,24 @@ fn keep_row(s: &mut [u8], i: usize, at: usize)
     crate::copy_row(s, number, layout::row_offset(number), at + 1);
 }
 
-// What undoes an effect, kept in the entry that starts at a byte.
-fn keep_entry(s: &mut [u8], effect: Effect, at: usize)
-    requires { ⌜ (length (now s) ≡ sessionBytes) × InBounds effect × (logAt ≤ at) × (at + entryBytes ≤ sessionBytes) ⌝ }
-    ensures { λ _. ⌜ now (s .exit) ≡ entryKept (now (s .entry)) effect at ⌝ }
+// A run and two rows kept in the entry that starts at a byte.
+fn keep_entry(s: &mut [u8], run: Run, i: usize, j: usize, at: usize)
+    requires { ⌜ (length (now s) ≡ sessionBytes) × (i ≤ rowCount) × (j ≤ rowCount) × (logAt ≤ at) × (at + entryBytes ≤ sessionBytes) ⌝ }
+    ensures { λ _. ⌜ now (s .exit) ≡ entryKept (now (s .entry)) run i j at ⌝ }
 {
-    keep_run(s, effect, at);
-    keep_row(s, effect.changed.row, at + layout::CHANGED);
-    keep_row(s, effect.also.row, at + layout::ALSO);
+    runs::keep_run(s, run, at);
+    keep_row(s, i, at + layout::CHANGED);
+    keep_row(s, j, at + layout::ALSO);
 }
 
-// The entry of an effect pushed, and the counter set.
-fn push(s: &mut [u8], counter: Ticket, effect: Effect)
-    requires { ⌜ (length (now s) ≡ sessionBytes) × InBounds effect ⌝ }
-    ensures { λ _. ⌜ now (s .exit) ≡ pushed (now (s .entry)) counter effect ⌝ }
+// The entry of a run and rows i and j pushed, and the counter set.
+fn push(s: &mut [u8], counter: Ticket, run: Run, i: usize, j: usize)
+    requires { ⌜ (length (now s) ≡ sessionBytes) × (i ≤ rowCount) × (j ≤ rowCount) ⌝ }
+    ensures { λ _. ⌜ now (s .exit) ≡ pushed (now (s .entry)) counter run i j ⌝ }
 {
     let head = view::head(s);
     let kept = replay::kept_after(view::kept(s));
-    keep_entry(s, effect, crate::entry_offset(head));
+    keep_entry(s, run, i, j, crate::entry_offset(head));
     crate::put_header(s, counter, kept, replay::notch_after(head));
 }
 
@@ -69,12 +60,22 @@ fn take_in(s: &mut [u8], counter: Ticket, effect: Effect)
     requires { ⌜ (length (now s) ≡ sessionBytes) × InBounds effect ⌝ }
     ensures { λ _. ⌜ now (s .exit) ≡ settled (now (s .entry)) counter effect ⌝ }
 {
-    push(s, counter, effect);
-    book::mark_slots(
+    let start = effect.start;
+    let slots = effect.slots;
+    let taken = effect.taken;
+    let before = Run {
+        start,
+        slots,
+        taken: !taken,
+    };
+    push(s, counter, before, effect.changed.row, effect.also.row);
+    runs::mark_run(
         s,
-        effect.start.0,
-        effect.slots,
-        book::mark_for(effect.taken),
+        Run {
+            start,
+            slots,
+            taken,
+        },
     );
     put_change(s, effect.changed);
     put_change(s, effect.also);

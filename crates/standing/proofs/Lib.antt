@@ -2,4 +2,5 @@ pub mod SaidLaws
 pub mod RulesLaws
 pub mod KeptLaws
 pub mod Theorem
+pub mod OrderedLaws
 pub mod Links

@@ -17,7 +17,7 @@ use Rattle.rules.specs.Effect.{slotMarked, marked}
 use Rattle.store.specs.Layout.{bookAt, registerAt}
 use Rattle.rules.specs.View.{isTaken}
 use Rattle.store.specs.Stands.{bookOf}
-use Rattle.store.proofs.Stretches.{sets-out, sets-in, sets-like, stretch-at, length-stretch}
+use Rattle.store.proofs.Stretches.{set-below, sets-out, sets-in, sets-like, stretch-at, length-stretch}
 
 -- ---- the book by itself
 
@@ -33,6 +33,20 @@ pub length-marked : (book : List ℕ) (slot n mark : ℕ) → length (marked boo
 unfolding marked
 length-marked book slot zero mark = refl
 length-marked book slot (suc n) mark = length-marked (slotMarked book slot mark) (suc slot) n mark ∙ length-slot-marked book slot mark
+
+slot-below : (m : ℕ) (book : List ℕ) (slot mark : ℕ) → ((k : ℕ) → getD book k 0 < m) → mark < m → (k : ℕ) → getD (slotMarked book slot mark) k 0 < m
+unfolding slotMarked
+slot-below m book slot mark h below = by (oneTo lastSlot slot)
+  where
+    by : (b : Bool) → (k : ℕ) → getD (cond b (set book (slot - 1) mark) book) k 0 < m
+    by true = set-below m book (slot - 1) mark h below
+    by false = h
+
+-- marks below m stay so: bytes stay bytes, and noughts and ones noughts and ones
+pub marked-below : (m : ℕ) (book : List ℕ) (slot n mark : ℕ) → ((k : ℕ) → getD book k 0 < m) → mark < m → (k : ℕ) → getD (marked book slot n mark) k 0 < m
+unfolding marked
+marked-below m book slot zero mark h below = h
+marked-below m book slot (suc n) mark h below = marked-below m (slotMarked book slot mark) (suc slot) n mark (slot-below m book slot mark h below) below
 
 -- past the last slot there is none to mark
 pub marked-past : (book : List ℕ) (slot n mark : ℕ) → lastSlot < slot → marked book slot n mark ≡ book

@@ -49,7 +49,7 @@ zeros-all bs old n e h z =
 
 -- ---- what the empty session stands for
 
-byte-emptied : (bs : List ℕ) (k : ℕ) → getD (emptied bs) k 0 ≡ 0
+pub byte-emptied : (bs : List ℕ) (k : ℕ) → getD (emptied bs) k 0 ≡ 0
 unfolding emptied
 byte-emptied bs k =
     ⊎-elim

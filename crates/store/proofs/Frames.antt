@@ -1,22 +1,18 @@
 -- What a change of some bytes leaves as it was: the bytes outside, and so each number, row and stretch that has none of the changed ones.
-use Prim.Native.Nat.{ℕ, zero, suc, _+_, _*_, _-_, _≤_, _<_}
-use mathlib.Core.Bool.{Bool, true, false, cond}
+use Prim.Native.Nat.{ℕ, _+_, _*_, _≤_, _<_}
 use mathlib.Core.List.{List}
 use mathlib.Core.Logic.{⊎-elim, _⊎_, inl, inr}
 use mathlib.Core.Path.{_≡_, refl, _∙_}
 use native.Mathlib.Omega.{arith}
-use lib.ListN.{length, getD, set, take, drop}
+use lib.ListN.{length, getD, take, drop}
 use Rattle.numbers.specs.Numbers.{numberAt, putNumber}
 use Rattle.numbers.proofs.FieldLaws.{Bytes, length-put, bytes-put, bit-put-out, same-byte}
 use Rattle.rows.specs.Row.{rowBytes, rowAt, putRow}
 use Rattle.rows.proofs.Bytewise.{field-same, bit-of-byte}
 use Rattle.rows.proofs.RowLaws.{row-same, length-put-row, bytes-put-row, byte-apart}
 use Rattle.trains.specs.declared.record.Train.{Train}
-use Rattle.trains.specs.Kinds.{lastSlot}
-use Rattle.trains.specs.Ranges.{oneTo}
-use Rattle.rules.specs.Effect.{slotMarked, marked}
 use Rattle.store.specs.Lent.{Lent}
-use Rattle.store.proofs.Stretches.{Outside, stretch-same, bytes-set}
+use Rattle.store.proofs.Stretches.{Outside, stretch-same}
 
 -- m bytes at i and n bytes at `at` have none in common
 abbrev pub Clear : ℕ → ℕ → ℕ → ℕ → Type 0
@@ -76,20 +72,6 @@ row-changes s at t h = record {
   bytes = bytes-put-row s at t h;
   out = λ k o. byte-apart s at t k h o;
 }
-
-bytes-slot-marked : (book : List ℕ) (slot mark : ℕ) → Bytes book → mark < 256 → Bytes (slotMarked book slot mark)
-unfolding slotMarked
-bytes-slot-marked book slot mark h m = by (oneTo lastSlot slot)
-  where
-    by : (b : Bool) → Bytes (cond b (set book (slot - 1) mark) book)
-    by true = bytes-set book (slot - 1) mark h m
-    by false = h
-
--- slots marked by a byte leave bytes
-pub bytes-marked : (book : List ℕ) (slot n mark : ℕ) → Bytes book → mark < 256 → Bytes (marked book slot n mark)
-unfolding marked
-bytes-marked book slot zero mark h m = h
-bytes-marked book slot (suc n) mark h m = bytes-marked (slotMarked book slot mark) (suc slot) n mark (bytes-slot-marked book slot mark h m) m
 
 -- ---- sessions
 

@@ -5,3 +5,4 @@ pub mod Frames
 pub mod RegisterLaws
 pub mod EffectLaws
 pub mod EmptyLaws
+pub mod TidyLaws

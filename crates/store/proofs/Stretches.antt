@@ -65,17 +65,18 @@ stretch-same s t a b n hs ht h =
 
 -- ---- bytes stay bytes
 
-pub bytes-set : (l : List ℕ) (i a : ℕ) → Bytes l → a < 256 → Bytes (set l i a)
-bytes-set l i a h m k = at (ℕ-discrete k i) (lt-or-le i (length l))
+-- numbers below m stay so where one below m is stored
+pub set-below : (m : ℕ) (l : List ℕ) (i a : ℕ) → ((k : ℕ) → getD l k 0 < m) → a < m → (k : ℕ) → getD (set l i a) k 0 < m
+set-below m l i a h below k = at (ℕ-discrete k i) (lt-or-le i (length l))
   where
-    at : Dec (k ≡ i) → (i < length l) ⊎ (length l ≤ i) → getD (set l i a) k 0 < 256
+    at : Dec (k ≡ i) → (i < length l) ⊎ (length l ≤ i) → getD (set l i a) k 0 < m
     at (no ne) r = rw (getD-set-other l i k a 0 ne) (h k)
-    at (yes e) (inl r) = rw (e, getD-set-same l i a 0 r) m
+    at (yes e) (inl r) = rw (e, getD-set-same l i a 0 r) below
     at (yes e) (inr r) = rw (set-out l i a r) (h k)
 
 pub bytes-sets : (l : List ℕ) (i : ℕ) (vs : List ℕ) → Bytes l → Bytes vs → Bytes (sets l i vs)
 bytes-sets l i [] h v = h
-bytes-sets l i (a ∷ vs) h v = bytes-sets (set l i a) (suc i) vs (bytes-set l i a h (v 0)) (λ k. v (suc k))
+bytes-sets l i (a ∷ vs) h v = bytes-sets (set l i a) (suc i) vs (set-below 256 l i a h (v 0)) (λ k. v (suc k))
 
 -- a stretch, of whatever bytes there are
 pub bytes-stretch : (bs : List ℕ) (n from : ℕ) → Bytes bs → Bytes (take n (drop from bs))

@@ -14,7 +14,7 @@ returns c =
     let a = c .before .before .before .before .before .before .before .before .before .before .before .before .before .args in
     let second : a .at + 71 ≡ alsoAt (a .at) = omega arith in
     c .before .before .keep-row2 .ensures
-    ∙ (λ k. rowKept ((c .before .before .before .before .before .before .keep-row .ensures ∙ (λ m. rowKept (c .before .before .before .before .before .before .before .before .before .before .keep-run .ensures m) (a .effect .changed .row) (changedAt (a .at)))) k) (a .effect .also .row) (second k))
+    ∙ (λ k. rowKept ((c .before .before .before .before .before .before .keep-row .ensures ∙ (λ m. rowKept (c .before .before .before .before .before .before .before .before .before .before .keep-run .ensures m) (a .i) (changedAt (a .at)))) k) (a .j) (second k))
 
 pub keep-entry-spec : {M : Type 1} → statement M
 keep-entry-spec =

@@ -18,9 +18,9 @@ entry-offset-requires c κs = omega (arith, head-in (c .before .before .before .
 
 keep-entry-requires : tie.Need-keep-entry-requires
 keep-entry-requires c κs =
-    let a = c .before .before .before .before .before .before .before .before .args in
-    let room = entry-room (headOf (a .s .now)) (head-in (a .s .now)) in
-    (omega arith, search needs, omega arith, omega arith)
+    let s = c .before .before .before .before .before .before .before .before .args .s .now in
+    let room = entry-room (headOf s) (head-in s) in
+    (omega arith, search needs, search needs, omega arith, omega arith)
 
 put-header-requires : tie.Need-put-header-requires
 unfolding depth
@@ -38,7 +38,7 @@ returns c =
     let kept = c .before .before .before .before .before .before .before .before .before .before .kept-after .ensures ∙ ap (λ (n : ℕ). min depth (suc n)) (c .before .before .before .before .before .before .before .before .before .before .before .kept .ensures) in
     let next = c .before .before .before .notch-after .ensures ∙ ap (after depth) head in
     c .before .before .put-header .ensures
-    ∙ (λ k. headed ((c .before .before .before .before .before .before .before .keep-entry .ensures ∙ ap (entryKept (a .s .now) (a .effect)) at) k) (a .counter) (kept k) (next k))
+    ∙ (λ k. headed ((c .before .before .before .before .before .before .before .keep-entry .ensures ∙ ap (entryKept (a .s .now) (a .run) (a .i) (a .j)) at) k) (a .counter) (kept k) (next k))
 
 pub push-spec : {M : Type 1} → statement M
 push-spec =

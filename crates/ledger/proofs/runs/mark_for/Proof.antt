@@ -1,8 +1,8 @@
--- `ledger::book::mark_for` meets its contract.
+-- `ledger::runs::mark_for` meets its contract.
 use Rattle.rules.specs.Effect.{markFor}
 use borrow.Author.Needs.{needs}
-use Rattle.ledger.proofs.book.mark_for.Statement.{statement}
-use Rattle.ledger.proofs.book.mark_for.Tie as tie
+use Rattle.ledger.proofs.runs.mark_for.Statement.{statement}
+use Rattle.ledger.proofs.runs.mark_for.Tie as tie
 
 returns : tie.Need-returns
 unfolding markFor

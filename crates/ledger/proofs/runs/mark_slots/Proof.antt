@@ -1,4 +1,4 @@
--- `ledger::book::mark_slots` meets its contract. The invariant: what is left to mark, marked, is all of it.
+-- `ledger::runs::mark_slots` meets its contract. The invariant: what is left to mark, marked, is all of it.
 use mathlib.Core.Path.{_≡_, refl, sym, ap, _∙_}
 use Prim.Native.Nat.{ℕ, suc, _-_}
 use native.Mathlib.Numerals.{add-one}
@@ -7,12 +7,12 @@ use borrow.Author.Tests.{leb-true, leb-false}
 use lib.ListN.{length}
 use Rattle.trains.specs.Kinds.{lastSlot}
 use Rattle.store.specs.Layout.{sessionBytes}
-use Rattle.ledger.specs.Settled.{bookMarked}
+use Rattle.ledger.specs.Runs.{bookMarked}
 use Rattle.ledger.proofs.MarkLaws.{book-marked-zero, book-marked-past, book-marked-suc}
 use Rattle.ledger.proofs.Sizes.{length-book-marked}
 use borrow.Author.Needs.{needs}
-use Rattle.ledger.proofs.book.mark_slots.Statement.{statement}
-use Rattle.ledger.proofs.book.mark_slots.Tie as tie
+use Rattle.ledger.proofs.runs.mark_slots.Statement.{statement}
+use Rattle.ledger.proofs.runs.mark_slots.Tie as tie
 
 abbrev Inv-loop : tie.InvT-loop
 Inv-loop s₀ first n mark slot₀ left₀ s slot left =

@@ -1,4 +1,4 @@
--- `ledger::book::mark_slot` meets its contract.
+-- `ledger::runs::mark_slot` meets its contract.
 use mathlib.Core.Path.{sym, _∙_}
 use native.Mathlib.Omega.{arith}
 use lib.ListN.{length-set}
@@ -6,8 +6,8 @@ use Rattle.trains.specs.Kinds.{lastSlot}
 use Rattle.trains.proofs.RangeLaws.{one-to}
 use Rattle.ledger.proofs.MarkLaws.{slot-stored, slot-passed}
 use borrow.Author.Needs.{needs}
-use Rattle.ledger.proofs.book.mark_slot.Statement.{statement}
-use Rattle.ledger.proofs.book.mark_slot.Tie as tie
+use Rattle.ledger.proofs.runs.mark_slot.Statement.{statement}
+use Rattle.ledger.proofs.runs.mark_slot.Tie as tie
 
 sub-s : tie.Need-sub-s
 sub-s c = omega (arith, one-to lastSlot (c .before .before .before .before .args .slot .0) (sym (c .before .before .in-range .ensures) ∙ c .before .if1 .taken))
