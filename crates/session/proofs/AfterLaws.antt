@@ -24,11 +24,13 @@ use Rattle.order.proofs.RuleLaws.{accepted-plain, accepted-exactly, counter-aft
 use Rattle.store.specs.Layout.{counterAt, sessionBytes, isSession}
 use Rattle.store.specs.Lent.{Lent}
 use Rattle.store.specs.Stands.{viewOf, counterOf, keptOf}
+use Rattle.store.specs.Tidy.{Tidy}
 use Rattle.store.proofs.ViewLaws.{view-fits, view-row-past}
 use Rattle.ledger.specs.Log.{saved, logOf}
 use Rattle.ledger.specs.Settled.{settled}
 use Rattle.ledger.proofs.BoundsLaws.{settled-in}
 use Rattle.ledger.proofs.SettledLaws.{EffectFits, settled-lent, settled-view, settled-counter, settled-kept, settled-log}
+use Rattle.ledger.proofs.TidyLaws.{settled-tidy}
 use Rattle.judging.specs.Judged.{judged}
 use Rattle.session.specs.Answers.{answerTo, bytesAfter, backAnswer, backAfter}
 use Rattle.session.specs.Settings.{usual}
@@ -100,6 +102,10 @@ module _ (bs : List ℕ) (lent : Lent bs) (o : Op) (h : judged usual bs o .answe
   pub after-log : logOf (bytesAfter bs o) ≡ take depth (saved (viewOf bs) (judged usual bs o .effect) ∷ logOf bs)
   unfolding effect
   after-log = ap logOf after-is ∙ settled-log bs lent counter effect fits
+
+  -- tidy bytes stay tidy
+  pub after-tidy : Tidy bs → Tidy (bytesAfter bs o)
+  after-tidy tidy = rw after-is (settled-tidy bs lent counter effect fits tidy)
 
 -- ---- a call that is refused
 
