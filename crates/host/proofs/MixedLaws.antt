@@ -17,17 +17,21 @@ use Rattle.recording.specs.Records.{callOf}
 use Rattle.recording.specs.Running.{isRun, bytesAfterRecord}
 use Rattle.host.specs.Mixed.{Did, called, ran, leftBy, leftByAll, callsBy}
 
+-- a record, by whether it is run
+run-or-not : (b : Bool) (bs : List ℕ) (c : Call Op) (ds : List Did) → leftByAll (bytesLeft bs c) ds ≡ bytesAfterAll (bytesLeft bs c) (callsBy ds)
+    → leftByAll bs ds ≡ bytesAfterAll bs (callsBy ds)
+    → leftByAll (cond b (bytesLeft bs c) bs) ds ≡ bytesAfterAll bs (cond b (c ∷ callsBy ds) (callsBy ds))
+unfolding bytesAfterAll
+run-or-not true bs c ds run not-run = run
+run-or-not false bs c ds run not-run = not-run
+
 -- the bytes are those that the calls leave
 pub mixed-bytes : (bs : List ℕ) (ds : List Did) → leftByAll bs ds ≡ bytesAfterAll bs (callsBy ds)
 unfolding leftByAll leftBy callsBy bytesAfterAll bytesAfterRecord
 mixed-bytes bs [] = refl
 mixed-bytes bs (called c ∷ ds) = mixed-bytes (bytesLeft bs c) ds
-mixed-bytes bs (ran held before ∷ ds) = by (isRun held before)
-  where
-    by : (b : Bool)
-        → leftByAll (cond b (bytesLeft bs (callOf held)) bs) ds ≡ bytesAfterAll bs (cond b (callOf held ∷ callsBy ds) (callsBy ds))
-    by true = mixed-bytes (bytesLeft bs (callOf held)) ds
-    by false = mixed-bytes bs ds
+mixed-bytes bs (ran held before ∷ ds) =
+    run-or-not (isRun held before) bs (callOf held) ds (mixed-bytes (bytesLeft bs (callOf held)) ds) (mixed-bytes bs ds)
 
 module _ (bs : List ℕ) (size : length bs ≡ sessionBytes) (ds : List Did) where
   -- DEMAND 3 FROM THE EMPTY SESSION, whatever a host does

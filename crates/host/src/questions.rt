@@ -48,7 +48,10 @@ pub extern "C" fn kb_kept(session: &[u8]) -> Answer
 pub extern "C" fn kb_is_taken(session: &[u8], slot: u32) -> Answer
     ensures { λ r. ⌜ r ≡ numberAnswer (now (session .entry)) (oneIf (isTaken (bookOf (now (session .entry))) (slotOf slot))) ⌝ }
 {
-    tell(session, numbers::one_if(questions::is_taken(session, Slot(slot))))
+    tell(
+        session,
+        numbers::one_if(questions::is_taken(session, Slot(slot))),
+    )
 }
 
 // The effective end of a named train.

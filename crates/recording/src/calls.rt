@@ -80,10 +80,18 @@ pub(crate) fn make(session: &mut [u8], kind: u32, payload: &[u8]) -> Answer
             let rear = numbers::word_at(payload, 10);
             on(session, payload, Deed::Position(front, rear))
         }
-        5 => on(session, payload, Deed::Authority(numbers::word_at(payload, 6))),
+        5 => on(
+            session,
+            payload,
+            Deed::Authority(numbers::word_at(payload, 6)),
+        ),
         6 => on(session, payload, Deed::Danger(numbers::word_at(payload, 6))),
         7 => sos(session, payload),
-        8 => on(session, payload, Deed::Clear(payloads::ticket_at(payload, 6))),
+        8 => on(
+            session,
+            payload,
+            Deed::Clear(payloads::ticket_at(payload, 6)),
+        ),
         _ => step_back(session, payload),
     }
 }

@@ -82,7 +82,15 @@ pub fn sos(
     ensures { λ r. ⌜ r ≡ answerTo (now (session .entry)) (Op.sos loco2 ticket2 loco1 ticket1 grid) ⌝ }
     ensures { λ _. ⌜ now (session .exit) ≡ bytesAfter (now (session .entry)) (Op.sos loco2 ticket2 loco1 ticket1 grid) ⌝ }
 {
-    let ruling = judging::sos(session, settings::usual(), loco2, ticket2, loco1, ticket1, grid);
+    let ruling = judging::sos(
+        session,
+        settings::usual(),
+        loco2,
+        ticket2,
+        loco1,
+        ticket1,
+        grid,
+    );
     commit(session, ruling)
 }
 
