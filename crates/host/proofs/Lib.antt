@@ -1,2 +1,3 @@
 pub mod MixedLaws
+pub mod QuestionLaws
 pub mod Links

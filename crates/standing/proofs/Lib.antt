@@ -3,4 +3,5 @@ pub mod RulesLaws
 pub mod KeptLaws
 pub mod Theorem
 pub mod OrderedLaws
+pub mod ScarLaws
 pub mod Links
