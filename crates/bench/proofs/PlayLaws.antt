@@ -118,10 +118,10 @@ module _ {p : Play} {b a : Bytes} {r : Play} (t : IsTurn p b a r) where
   runOutput = putAt (b .output) (t .pending .filled) (textOf ran)
 
   -- what a turn tells, where it is known whether a record is run
-  told-as : (c : Bool) → isEnd (t .held) bytes ≡ c
+  by-end : (c : Bool) → isEnd (t .held) bytes ≡ c
       → (r ≡ cond c stop run) × (a .session ≡ cond c (b .session) runSession) × (a .output ≡ cond c (b .output) runOutput)
-  told-as c e = (
-    t .runs .told ∙ ap (λ (x : Bool). cond x stop run) e,
+  by-end c e = (
+    t .runs .result ∙ ap (λ (x : Bool). cond x stop run) e,
     t .runs .bytes ∙ ap (λ (x : Bool). cond x (b .session) runSession) e,
     t .runs .text ∙ ap (λ (x : Bool). cond x (b .output) runOutput) e,
   )
@@ -131,8 +131,8 @@ module _ {p : Play} {b a : Bytes} {r : Play} (t : IsTurn p b a r) where
   ended-same = of (isEnd (t .held) bytes) refl
     where
       of : (c : Bool) → isEnd (t .held) bytes ≡ c → r .held .ended ≡ t .held .ended
-      of true e = ap (λ (q : Play). q .held .ended) (told-as true e .0)
-      of false e = ap (λ (q : Play). q .held .ended) (told-as false e .0)
+      of true e = ap (λ (q : Play). q .held .ended) (by-end true e .0)
+      of false e = ap (λ (q : Play). q .held .ended) (by-end false e .0)
 
   -- what was to come before a turn is what it sent and what is to come behind it
   turn-left : (rest : List ℕ) → p .over ≡ false → (r .held .ended ≡ true → rest ≡ [])
@@ -159,18 +159,18 @@ module _ {p : Play} {b a : Bytes} {r : Play} (t : IsTurn p b a r) where
 
       of : (c : Bool) → isEnd (t .held) bytes ≡ c → sent ++ (kept ++ open-left) ≡ sent ++ toCome rest r a
       of true e =
-          let told = told-as true e in
+          let known = by-end true e in
           ap (λ (s : List ℕ). sent ++ (kept ++ s)) (stop-left p (b .session) (a .input) (t .held) rest (t .ready .enough) shut e)
-          ∙ sym (λ i. sent ++ toCome rest (told .0 i) (record { session = told .1 i; input = a .input; output = told .2 i }))
+          ∙ sym (λ i. sent ++ toCome rest (known .0 i) (record { session = known .1 i; input = a .input; output = known .2 i }))
       of false e =
-          let told = told-as false e in
+          let known = by-end false e in
           let text : List ℕ = textOf ran in
           let behind : List ℕ = left (isLast ran) runSession (heldBytes (a .input) (behindBy (ran .used) (t .held)) ++ rest) (p .lines + 1) (p .accepted + oneIfAccepted ran) in
           let fits : t .pending .filled + length text ≤ length (b .output) = omega (arith, t .runs .short e, t .roomy .large) in
           ap (λ (s : List ℕ). sent ++ (kept ++ s)) (run-left p (b .session) (a .input) (t .held) rest (t .ready .enough) shut e)
           ∙ ap (λ (s : List ℕ). sent ++ s) (sym (append-assoc kept text behind))
           ∙ ap (λ (s : List ℕ). sent ++ (s ++ behind)) (sym (text-put (b .output) (t .pending .filled) text fits))
-          ∙ sym (λ i. sent ++ toCome rest (told .0 i) (record { session = told .1 i; input = a .input; output = told .2 i }))
+          ∙ sym (λ i. sent ++ toCome rest (known .0 i) (record { session = known .1 i; input = a .input; output = known .2 i }))
 
 -- ---- the first record, run or not
 
@@ -184,9 +184,9 @@ module _ (p : Play) (held : Held) (pending : Pending) (first session output : Li
   firstRan = ranRecord session first (p .lines)
 
   pub runs-none : {r : Play} → isEnd held first ≡ true → r ≡ stoppedAt p held pending → RunsFirst p held pending first session output session output r
-  runs-none e told = record {
+  runs-none e known = record {
     short = λ n. let z : _≡_ {A = ℕ} 0 1 = cc (n, e) in absurd (omega arith);
-    told = told ∙ ap (λ (b : Bool). cond b (stoppedAt p held pending) (playedOn p held pending firstRan)) (sym e);
+    result = known ∙ ap (λ (b : Bool). cond b (stoppedAt p held pending) (playedOn p held pending firstRan)) (sym e);
     bytes = ap (λ (b : Bool). cond b session (bytesAfterRecord session first (p .lines))) (sym e);
     text = ap (λ (b : Bool). cond b output (putAt output (pending .filled) (textOf firstRan))) (sym e);
   }
@@ -200,7 +200,7 @@ module _ (p : Play) (held : Held) (pending : Pending) (first session output : Li
   unfolding turnOf
   runs-one {turn} e says eh eq = record {
     short = λ n. omega (arith, ap (λ (t : Turn). t .length) (says .0 .0), says .0 .1);
-    told =
+    result =
         (λ i. record {
           held = (eh ∙ ap (λ (t : Turn). behindBy (t .used) held) (says .0 .0)) i;
           pending = (eq ∙ ap (λ (t : Turn). withMore (t .length) pending) (says .0 .0)) i;
@@ -252,11 +252,11 @@ module _ {p : Play} {b a : Bytes} {r : Play} (t : IsTurn p b a r) where
   turn-lines g = of (isEnd (t .held) (bytes t)) refl
     where
       of : (c : Bool) → isEnd (t .held) (bytes t) ≡ c → (r .lines ≡ p .lines + 1) × (r .lines ≤ mostRecords)
-      of true e = absurd (stop-not (t .held .failed) (t .pending .writable) (sym (ap goesOn (told-as t true e .0)) ∙ g))
+      of true e = absurd (stop-not (t .held .failed) (t .pending .writable) (sym (ap goesOn (by-end t true e .0)) ∙ g))
       of false e =
-          let told = told-as t false e .0 in
-          let few = not-last (b .session) (bytes t) (p .lines) (sym (ap (λ (q : Play). q .over) told) ∙ goes-over r g) in
-          let lines = ap (λ (q : Play). q .lines) told in
+          let known = by-end t false e .0 in
+          let few = not-last (b .session) (bytes t) (p .lines) (sym (ap (λ (q : Play). q .over) known) ∙ goes-over r g) in
+          let lines = ap (λ (q : Play). q .lines) known in
           (lines, omega (arith, lines, few))
 
   turn-counted : p .accepted ≤ p .lines → r .accepted ≤ r .lines
@@ -264,11 +264,11 @@ module _ {p : Play} {b a : Bytes} {r : Play} (t : IsTurn p b a r) where
     where
       of : (c : Bool) → isEnd (t .held) (bytes t) ≡ c → r .accepted ≤ r .lines
       of true e =
-          let told = told-as t true e .0 in
-          omega (arith, ap (λ (q : Play). q .lines) told, ap (λ (q : Play). q .accepted) told)
+          let known = by-end t true e .0 in
+          omega (arith, ap (λ (q : Play). q .lines) known, ap (λ (q : Play). q .accepted) known)
       of false e =
-          let told = told-as t false e .0 in
-          omega (arith, ap (λ (q : Play). q .lines) told, ap (λ (q : Play). q .accepted) told, one-most (ran t))
+          let known = by-end t false e .0 in
+          omega (arith, ap (λ (q : Play). q .lines) known, ap (λ (q : Play). q .accepted) known, one-most (ran t))
 
 -- what a loop over the turns has reached
 pub record Going (start b : Bytes) (p : Play) : Type 0 where

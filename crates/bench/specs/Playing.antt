@@ -57,7 +57,7 @@ playedOn play held pending ran = record {
 -- THE FIRST RECORD of what is held is run, unless there is none: the play after it, and the bytes of session and output
 pub record RunsFirst (play : Play) (held : Held) (pending : Pending) (first session output session' output' : List ℕ) (r : Play) : Type 0 where
   pub short : isEnd held first ≡ false → length (textOf (ranRecord session first (play .lines))) ≤ room
-  pub told : r ≡ cond (isEnd held first) (stoppedAt play held pending) (playedOn play held pending (ranRecord session first (play .lines)))
+  pub result : r ≡ cond (isEnd held first) (stoppedAt play held pending) (playedOn play held pending (ranRecord session first (play .lines)))
   pub bytes : session' ≡ cond (isEnd held first) session (bytesAfterRecord session first (play .lines))
   pub text : output' ≡ cond (isEnd held first) output (putAt output (pending .filled) (textOf (ranRecord session first (play .lines))))
 
@@ -94,4 +94,5 @@ pub record IsListed (start : Bytes) (output : List ℕ) (r : Play) : Type 0 wher
   pub after : Bytes
   pub played : IsPlayed start after play
   pub ended : IsEnded play (after .output) output (r .pending)
+  pub same : r ≡ record { held = play .held; pending = r .pending; lines = play .lines; accepted = play .accepted; over = play .over }
   pub listed : r .over ≡ true → (played .sent ++ ended .sent) ++ pendingBytes output (r .pending) ≡ listing (played .read)

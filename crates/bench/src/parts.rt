@@ -1,4 +1,4 @@
-// Places in a buffer that are never past an end.
+// Offsets in a buffer that are never past an end.
 ghost use mathlib.Core.Path.{_≡_};
 ghost use Prim.Native.Nat.{_≤_, min};
 

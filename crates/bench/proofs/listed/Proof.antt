@@ -10,12 +10,14 @@ returns : tie.Need-returns
 returns c =
     let ended = c .before .before .with-end in
     let played = c .before .before .before .before .before .before .before .before .before .before .before .played in
+    let after = bytes (played .last .0) (played .last .1 .0) (played .last .1 .1 .0) in
     let entry = c .before .before .before .before .before .before .before .before .before .before .before .before .before .before .before .before .before .before in record {
       play = played .result;
-      after = _;
+      after = after;
       played = played .ensures;
       ended = ended .ensures;
-      listed = all-listed (entry .args .output .now) (played .ensures) (entry .pre .0) refl (entry .pre .1) (ended .ensures);
+      same = refl;
+      listed = all-listed {after = after} (entry .args .output .now) (played .ensures) (entry .pre .0) refl (entry .pre .1) (ended .ensures);
     }
 
 pub listed-spec : {M : Type 1} → statement M

@@ -35,14 +35,20 @@ loop-less c =
     let tested = c .before .before .before .before .before .before .before .before .before .before .before in
     let going = tested .before .loop .inv .0 in
     let on = sym (tested .goes-on .ensures) ∙ c .before .before .before .before .before .before .before .before .before .before .if1 .taken in
-    fewer on (going .few on) (c .before .before .before .before .before .before .step .ensures)
+    let step = c .before .before .before .before .before .before .step in
+    fewer {a = bytes (step .last .1 .0) (step .last .1 .1 .0) (step .last .1 .1 .1 .0)} on (going .few on) (step .ensures)
 
 loop-again : tie.Need-loop-again Inv-loop μ-loop
 loop-again c =
     let tested = c .before .before .before .before .before .before .before .before .before .before .before in
     let going = tested .before .loop .inv .0 in
     let on = sym (tested .goes-on .ensures) ∙ c .before .before .before .before .before .before .before .before .before .before .if1 .taken in
-    (going-next going on (c .before .before .before .before .before .before .step .ensures), search needs, search needs, search needs)
+    let step = c .before .before .before .before .before .before .step in (
+      going-next {a = bytes (step .last .1 .0) (step .last .1 .1 .0) (step .last .1 .1 .1 .0)} going on (step .ensures),
+      search needs,
+      search needs,
+      search needs,
+    )
 
 returns : tie.Need-returns Inv-loop μ-loop
 returns c =

@@ -35,4 +35,4 @@ run-first-spec =
     tie.close
     (tie.spec
     (λ c κs. search needs) (λ c κs. search needs) returns (λ c. search needs) (λ c κs. search needs) (λ c κs. search needs)
-    with-requires add-t16 add-t17 (λ c. search needs) (λ c. search needs) returns-2)
+    with-requires add-t16 add-t17 (λ c. c .before .before .before .before .before .before .before .before .before .next .kept .0) (λ c. c .before .before .before .before .before .before .before .before .before .next .kept .1 .1 .1 .0) returns-2)
