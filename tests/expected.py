@@ -19,6 +19,8 @@ CALLS = str(MODEL / "target" / "release" / "session_calls")
 
 # Each file below crates/, and the script with its words that makes it, or the sample that it is.
 SCRIPTS = {
+    "listing_runs/stdin": ("listing_cases.py", "stdin"),
+    "listing_runs/stdout": ("listing_cases.py", "stdout"),
     "packet_runs/stdin": ("packet_cases.py", "stdin"),
     "packet_runs/stdout": ("packet_cases.py", "stdout"),
     "modes_runs/stdout": ("mode_steps.py",),
