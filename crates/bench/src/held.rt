@@ -1,5 +1,4 @@
 // What is held of the recording: a stretch of a buffer that is read into as records are used.
-use crate::parts;
 use libc::STDIN_FILENO;
 use recording::running::LONGEST;
 ghost use mathlib.Core.Path.{_≡_};
@@ -68,9 +67,9 @@ impl Held {
     pub(crate) fn behind(self, used: usize) -> Held
         ensures { λ r. ⌜ r ≡ behindBy used self ⌝ }
     {
-        let left = self.end - parts::at_most(self.at, self.end);
+        let left = self.end - numbers::at_most(self.at, self.end);
         Held {
-            at: self.end - left + parts::at_most(used, left),
+            at: self.end - left + numbers::at_most(used, left),
             end: self.end,
             ended: self.ended,
             failed: self.failed,
@@ -90,8 +89,8 @@ pub(crate) fn part(buffer: &[u8], held: Held) -> &[u8]
     ensures { λ r. ⌜ now r ≡ heldBytes (now (buffer .entry)) held ⌝ }
     ensures { λ r. ⌜ r .ptr .1 ≡ buffer .entry .ptr .1 + heldAt (length (now (buffer .entry))) held ⌝ }
 {
-    let end = parts::at_most(held.end, buffer.len());
-    let at = parts::at_most(held.at, end);
+    let end = numbers::at_most(held.end, buffer.len());
+    let at = numbers::at_most(held.at, end);
     &buffer[at..end]
 }
 
@@ -126,8 +125,8 @@ fn read_on(buffer: &mut [u8], kept: usize) -> Held
 pub(crate) fn ready(buffer: &mut [u8], held: Held) -> Held
     ensures { λ r. ⌜ IsReady (now (buffer .entry)) held (now (buffer .exit)) r ⌝ }
 {
-    let end = parts::at_most(held.end, buffer.len());
-    let at = parts::at_most(held.at, end);
+    let end = numbers::at_most(held.end, buffer.len());
+    let at = numbers::at_most(held.at, end);
     let kept = end - at;
     if held.ended {
         return held;

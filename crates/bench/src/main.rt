@@ -15,7 +15,6 @@ ghost use Rattle.listing.specs.Turns.{putAt};
 ghost use Rattle.bench.specs.Playing.{bytes, begunPlay, goesOn, stoppedAt, CanGoOn, RunsFirst, IsTurn, IsPlayed, IsEnded, IsListed};
 
 mod held;
-mod parts;
 mod pending;
 
 // A play between two records. It is over once its last record is listed.

@@ -1,5 +1,4 @@
 // What is still to be written of the listing: the first bytes of a buffer that is written when it is full.
-use crate::parts;
 use libc::STDOUT_FILENO;
 ghost use mathlib.Core.Bool.{true};
 ghost use mathlib.Core.Path.{_≡_};
@@ -46,7 +45,7 @@ pub(crate) fn written(buffer: &[u8], pending: Pending) -> Pending
             writable: false,
         };
     }
-    let n = parts::at_most(pending.filled, buffer.len());
+    let n = numbers::at_most(pending.filled, buffer.len());
     let is_written = io::write_all(STDOUT_FILENO, &buffer[0..n]);
     Pending {
         filled: 0,

@@ -15,7 +15,7 @@ use Rattle.trains.specs.Ranges.{isPosition, isNoneOrLocation, locationFrom}
 use Rattle.trains.specs.declared.kinds.Ticket.{Ticket}
 use Rattle.trains.specs.declared.record.Train.{Train}
 use Rattle.trains.proofs.ChangeLaws.{SameTrain, same-train}
-use Rattle.rules.specs.Deeds.{Deed, flags, position, authority, danger, clear, changedWith, changedIf, stepTaken, stepped, done}
+use Rattle.rules.specs.Deeds.{Deed, flags, position, authority, danger, clear, changedWith, changedIf, stepTaken, modeStepped, done}
 use Rattle.rules.specs.Raising.{shareTaken}
 use Rattle.rules.specs.Ruling.{acceptedWith, refusedWith}
 
@@ -27,8 +27,8 @@ module _ (P : Train → Type 0) (t : Train) (before : P t) where
   changed-if false ground after h = before
 
   -- what holds of the train, and of the one in the next mode where the step is a transition, holds afterwards
-  step-taken : (s : Step) → (s .answer ≡ 0 → (s .priority ≡ 0 → ⊥) → P (withMode t (s .mode))) → P (stepped t s .train)
-  unfolding stepped stepTaken
+  step-taken : (s : Step) → (s .answer ≡ 0 → (s .priority ≡ 0 → ⊥) → P (withMode t (s .mode))) → P (modeStepped t s .train)
+  unfolding modeStepped stepTaken
   step-taken s h = outer (eqb (s .answer) 0) refl
     where
       inner : (b : Bool) → eqb (s .priority) 0 ≡ b → s .answer ≡ 0 → P (cond b t (withMode t (s .mode)))

@@ -20,7 +20,7 @@ use Rattle.trains.specs.Sought.{holdsLoco, isSought}
 use Rattle.sos.specs.Classes.{among, classOf}
 use Rattle.sos.specs.Grids.{cellOf}
 use Rattle.sos.specs.Shares.{behind, shareOfL1, shareBehind}
-use Rattle.rules.specs.Deeds.{endAnswer, changedIf, stepTaken, stepped, done, endAsked}
+use Rattle.rules.specs.Deeds.{endAnswer, changedIf, stepTaken, modeStepped, done, endAsked}
 use Rattle.rules.specs.Effect.{markFor, slotMarked, marked, applied}
 use Rattle.rules.specs.Named.{inRow, namedIn, nameGround}
 use Rattle.rules.specs.Raising.{lacksPosition, lacksPlace, shareTaken, sosGround, raised}
@@ -41,7 +41,7 @@ unfolding
     viewed ruled after endIn flagsOf bitAt field times unpack refuse orElse unlessRefused headRefusal gateWidths gateRules gateRefusal gatesOf fieldsRefusal
     readRefusal readAnswer readInto transitions choose refuses nextStep first isFound orElseFound oneTo isPosition isNoneOrLocation locationFrom standsUnder placeUnder room setAt
     leftFor nearer nearest limitStop orderStop dangerStop orderStops endWith holdsLoco isSought soughtIn findIn isTaken markFor slotMarked marked applied
-    among classOf cellOf behind shareOfL1 shareBehind when unless ruledBy granted ticketFor requestGround rowOfFound endAnswer changedIf stepTaken stepped done
+    among classOf cellOf behind shareOfL1 shareBehind when unless ruledBy granted ticketFor requestGround rowOfFound endAnswer changedIf stepTaken modeStepped done
     endAsked lacksPosition lacksPlace shareTaken sosGround raised isRequest slotsFor isFree isRun runFrom lowestRun isRunFound startOf inRow namedIn nameGround
     groundOf doneBy rule startView
 viewed-as-printed = refl

@@ -1,4 +1,4 @@
--- A call that is made by its operation's own contract. Assumes nothing.
+-- A call that is made by its operation's own contract.
 use mathlib.Core.Path.{_≡_, sym, ap, _∙_}
 use mathlib.Core.List.{List}
 use Prim.Native.Nat.{ℕ}

@@ -10,7 +10,8 @@ use lib.ListN.{length, take, drop}
 use Rattle.numbers.specs.Numbers.{numberAt}
 use Rattle.recording.specs.Kinds.{among, payloadLength}
 use Rattle.recording.specs.Records.{mark, headBytes, longest, kindOf, saidLength, recordLength, isRecord, payloadOf}
-use Rattle.recording.proofs.KindLaws.{both, payload-most}
+use Rattle.recording.proofs.KindLaws.{payload-most}
+use Rattle.numbers.proofs.Logic.{both}
 
 -- a record of the flags is as long as the longest
 pub longest-met : headBytes + payloadLength 3 ≡ longest

@@ -15,7 +15,7 @@ use Rattle.trains.specs.declared.record.Location.{Location}
 use Rattle.trains.specs.declared.record.Location.the-variants.{Nowhere, At}
 use Rattle.trains.specs.declared.record.Train.{Train}
 use Rattle.replay.specs.Demand3.{Call, op, back}
-use Rattle.rules.specs.Deeds.{Deed, flags, position, authority, danger, clear, endAnswer, changedWith, changedIf, stepTaken, stepped, done}
+use Rattle.rules.specs.Deeds.{Deed, flags, position, authority, danger, clear, endAnswer, changedWith, changedIf, stepTaken, modeStepped, done}
 use Rattle.rules.specs.Named.{namedIn, nameGround}
 use Rattle.rules.specs.Raising.{sosGround}
 use Rattle.rules.specs.Refusals.{badRecord, wrongLength, tooFarBack}
@@ -84,8 +84,8 @@ next-other : (m : ℕ) (fs : List ℕ) → Other (nextStep m fs .answer)
 unfolding nextStep
 next-other m fs = step-if (refuses m fs) stepRefused (choose m (opens m fs)) (λ e. omega arith) (choice-other m (opens m fs))
 
-step-other : (t : Train) (s : Step) → Other (s .answer) → Other (stepped t s .answer .answer)
-unfolding stepped
+step-other : (t : Train) (s : Step) → Other (s .answer) → Other (modeStepped t s .answer .answer)
+unfolding modeStepped
 step-other t s q = go (eqb (s .answer) 0)
   where
     go : (b : Bool)

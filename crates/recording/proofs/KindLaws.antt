@@ -1,4 +1,4 @@
--- Laws of the kinds of record. Assumes nothing.
+-- Laws of the kinds of record.
 use mathlib.Core.Bool.{Bool, true, false, cond, _&&_}
 use mathlib.Core.Path.{_≡_, refl, ap, _∙_}
 use mathlib.Core.List.{List, [], _∷_, _++_}
@@ -7,12 +7,8 @@ use native.Mathlib.Omega.{arith}
 use borrow.Author.Tests.{ne-eqb, leb-true}
 use lib.Dec.{eqb, leb}
 use lib.ListN.{take, drop}
+use Rattle.numbers.proofs.Logic.{both}
 use Rattle.recording.specs.Kinds.{Kind, kinds, noKind, among, payloadLength, callBy}
-
--- of two tests that hold together each holds
-pub both : (a b : Bool) → (a && b) ≡ true → (a ≡ true) × (b ≡ true)
-both true b e = (refl, e)
-both false b e = (e, ap (λ (x : Bool). cond x true b) e)
 
 -- ---- the longest payload
 

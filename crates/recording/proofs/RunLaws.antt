@@ -18,7 +18,7 @@ use Rattle.standing.specs.Standing.{answered, bytesLeft}
 use Rattle.recording.specs.Records.{kindOf, recordLength, isRecord, callOf}
 use Rattle.recording.specs.Running.{mostRecords, isRun, notRun, runWith, ranRecord, bytesAfterRecord}
 use Rattle.recording.specs.declared.running.Ran.{Ran}
-use Rattle.recording.proofs.KindLaws.{both}
+use Rattle.numbers.proofs.Logic.{both}
 use Rattle.recording.proofs.GroundLaws.{answered-other}
 use Rattle.recording.proofs.FormLaws.{record-whole, record-kind}
 use Rattle.recording.proofs.CallLaws.{Called}

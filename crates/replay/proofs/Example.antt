@@ -6,7 +6,7 @@ use mathlib.Core.Bool.{Bool, true, false, cond}
 use mathlib.Core.List.{List, [], _∷_}
 use borrow.Author.Tests.{le-leb}
 use lib.Dec.{T, leb, ltb, leb→le}
-use Rattle.replay.specs.Rules.{Rules, Lawful, Outcome, refuse, accept, justBelow, ticketDue, judged, counterAfter}
+use Rattle.replay.specs.Rules.{Rules, Lawful, Outcome, refuse, accept, justBelow, ticketDue, verdict, counterAfter}
 use Rattle.replay.specs.Demand3.{Call, op, back, State, depth, History, Session, Starts, Made, Demand3}
 use Rattle.replay.specs.Demand3.{cameTo, readOff, withoutLast, stand, standing, keep, kept, issue, tickets, opAnswer, backAnswer}
 use Rattle.replay.specs.Machine.{acted, undoAll, undone, step}
@@ -100,14 +100,14 @@ given-is c t r w e = go (ltb c t) (leb t last) refl refl e
     go true false p q e = let z : _≡_ {A = ℕ} 0 1 = cc in absurd (omega arith)
     go false f p q e = let z : _≡_ {A = ℕ} 0 1 = cc in absurd (omega arith)
 
-again : (o : Op) (c v w r : ℕ) → judged rules o c v ≡ accept r w → act o (justBelow (ticketDue rules o c)) (ticketDue rules o c) v ≡ accept r w
-unfolding judged ticketDue isGrant ticketOf act
+again : (o : Op) (c v w r : ℕ) → verdict rules o c v ≡ accept r w → act o (justBelow (ticketDue rules o c)) (ticketDue rules o c) v ≡ accept r w
+unfolding verdict ticketDue isGrant ticketOf act
 again (set-to x) c v w r e = e
 again grant c v w r e = given-is c (suc c) r w e .again
 again (grant-as n) c v w r e = given-is c n r w e .again
 
-fits : (o : Op) (c v w r : ℕ) → judged rules o c v ≡ accept r w → isGrant o ≡ true → (c < ticketDue rules o c) × (ticketDue rules o c ≤ last)
-unfolding judged ticketDue isGrant ticketOf act
+fits : (o : Op) (c v w r : ℕ) → verdict rules o c v ≡ accept r w → isGrant o ≡ true → (c < ticketDue rules o c) × (ticketDue rules o c ≤ last)
+unfolding verdict ticketDue isGrant ticketOf act
 fits (set-to x) c v w r e g = let z : _≡_ {A = ℕ} 0 1 = cc in absurd (omega arith)
 fits grant c v w r e g = let f = given-is c (suc c) r w e in (f .above, f .fits)
 fits (grant-as n) c v w r e g = let f = given-is c n r w e in (f .above, f .fits)
@@ -139,5 +139,5 @@ run-is :
     (standing run
     ≡ record { operation = set-to 7; ticket = 0; reply = 0 } ∷ record { operation = grant-as 5; ticket = 5; reply = 5 }
     ∷ record { operation = grant; ticket = 6; reply = 6 } ∷ []) × (tickets rules run ≡ 1 ∷ 5 ∷ 6 ∷ []) × (kept run ≡ 3)
-unfolding run answered isGrant ticketOf last given act depth cameTo readOff withoutLast stand standing keep kept issue tickets opAnswer backAnswer ticketDue judged counterAfter acted undoAll undone step
+unfolding run answered isGrant ticketOf last given act depth cameTo readOff withoutLast stand standing keep kept issue tickets opAnswer backAnswer ticketDue verdict counterAfter acted undoAll undone step
 run-is = (refl, refl, refl)

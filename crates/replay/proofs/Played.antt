@@ -5,7 +5,7 @@ use mathlib.Core.Path.{_≡_, refl, sym, ap, ap₂, _∙_, subst, subst₂}
 use mathlib.Core.Bool.{Bool, true, false, cond}
 use mathlib.Core.List.{List, [], _∷_, _++_, append-assoc, append-nil}
 use lib.ListN.{length, take, length-append}
-use Rattle.replay.specs.Rules.{Rules, Lawful, Outcome, accept, ticketDue, judged, counterAfter}
+use Rattle.replay.specs.Rules.{Rules, Lawful, Outcome, accept, ticketDue, verdict, counterAfter}
 use Rattle.replay.specs.Demand3.{Call, op, Answer, took, Exchange, Done, CameTo, entry, stepBack, nothing, State, History, Session}
 use Rattle.replay.specs.Demand3.{cameTo, readOff, withoutLast, stand, standing, issue, tickets, opAnswer, viewIn, counterIn, Starts, Made}
 use Rattle.replay.specs.Machine.{acted, undone, step}
@@ -71,10 +71,10 @@ module _ (R : Rules) where
   abbrev Counted : ℕ → View → List (Done Op Reply) → ℕ → View → Type 0
   Counted c v [] e w = (c ≡ e) × (v ≡ w)
   Counted c v (x ∷ d) e w =
-      (x .ticket ≡ ticketDue R (x .operation) c) × (m : View) × (judged R (x .operation) c v ≡ accept (x .reply) m) × Counted (counterAfter R (x .operation) c) m d e w
+      (x .ticket ≡ ticketDue R (x .operation) c) × (m : View) × (verdict R (x .operation) c v ≡ accept (x .reply) m) × Counted (counterAfter R (x .operation) c) m d e w
 
   counted-one : (c n : ℕ) (v u w : View) (d : List (Done Op Reply)) (x : Done Op Reply) → Counted c v d n u → x .ticket ≡ ticketDue R (x .operation) n
-      → judged R (x .operation) n u ≡ accept (x .reply) w → Counted c v (d ++ x ∷ []) (counterAfter R (x .operation) n) w
+      → verdict R (x .operation) n u ≡ accept (x .reply) w → Counted c v (d ++ x ∷ []) (counterAfter R (x .operation) n) w
   counted-one c n v u w [] x p t e = rw (p .0, p .1) (t, w, e, (refl, refl))
   counted-one c n v u w (y ∷ d) x p t e = (p .0, p .1, p .2, counted-one (counterAfter R (y .operation) c) n (p .1) u w d x (p .3) t e)
 
@@ -157,7 +157,7 @@ module _ {R : Rules} (S : Session R) (L : Lawful R) (K : Kept S) where
   -- ── the play ──
 
   -- an operation that the rules accept acts, and is answered with its ticket and reply
-  step-acts : (s : State View Entry) (o : Op) (r : Reply) (w : View) → judged R o (s .counter) (s .view) ≡ accept r w
+  step-acts : (s : State View Entry) (o : Op) (r : Reply) (w : View) → verdict R o (s .counter) (s .view) ≡ accept r w
       → step R s (op o) ≡ (acted R o s (accept r w), took (ticketDue R o (s .counter)) r)
   unfolding step opAnswer
   step-acts s o r w e = ap (λ (x : Outcome View Reply). (acted R o s x, opAnswer (ticketDue R o (s .counter)) x)) e
@@ -170,7 +170,7 @@ module _ {R : Rules} (S : Session R) (L : Lawful R) (K : Kept S) where
     came : cameTo (x .call) (x .answer) ≡ entry y
 
   plays-one : (y : Done Op Reply) (w : View) (b : Bytes) (x : Exchange Op Reply) (m : Bytes) → Ready b → Sound (viewIn S b) → x .call ≡ op (y .operation)
-      → y .ticket ≡ ticketDue R (y .operation) (counterIn S b) → judged R (y .operation) (counterIn S b) (viewIn S b) ≡ accept (y .reply) w → Did b (x .call) (x .answer) m
+      → y .ticket ≡ ticketDue R (y .operation) (counterIn S b) → verdict R (y .operation) (counterIn S b) (viewIn S b) ≡ accept (y .reply) w → Did b (x .call) (x .answer) m
       → PlaysOne y w b x m
   unfolding acted cameTo
   plays-one y w b x m ready sound e due accepts did =

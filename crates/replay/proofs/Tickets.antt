@@ -7,7 +7,7 @@ use mathlib.Core.Logic.{_≢_}
 use mathlib.Core.Bool.{Bool, true, false, cond}
 use mathlib.Core.List.{List, [], _∷_, _++_, append-nil}
 use lib.ListN.{length, getD}
-use Rattle.replay.specs.Rules.{Rules, Lawful, accept, ticketDue, judged, counterAfter}
+use Rattle.replay.specs.Rules.{Rules, Lawful, accept, ticketDue, verdict, counterAfter}
 use Rattle.replay.specs.Demand3.{Call, op, Answer, took, CameTo, entry, stepBack, nothing, State, cameTo, Issued, issue}
 use Rattle.replay.specs.Machine.{acted, undone}
 use Rattle.replay.proofs.Ways.{Way, stays, acts, goes, refused-nothing}
@@ -72,7 +72,7 @@ module _ (R : Rules) (L : Lawful R) where
   open Rules R using (View, Op, Reply, Entry, grants, Sound)
   open Lawful L using (ticket-fits)
 
-  issued-acts : (s : State View Entry) (o : Op) (r : Reply) (w : View) (b : Bool) → Sound (s .view) → judged R o (s .counter) (s .view) ≡ accept r w → grants o ≡ b
+  issued-acts : (s : State View Entry) (o : Op) (r : Reply) (w : View) (b : Bool) → Sound (s .view) → verdict R o (s .counter) (s .view) ≡ accept r w → grants o ≡ b
       → Issued R (s .counter) (issue R (cameTo (op o) (took (ticketDue R o (s .counter)) r)) []) (counterAfter R o (s .counter))
   unfolding cameTo issue ticketDue counterAfter
   issued-acts s o r w false sound e g = rw g refl

@@ -6,7 +6,7 @@ use mathlib.Core.Path.{_≡_, refl, sym, ap, _∙_, subst}
 use mathlib.Core.List.{List, [], _∷_, _++_}
 use lib.ListN.{length, take, drop, length-append}
 use lib.Seq.{take-append-le, take-length}
-use Rattle.replay.specs.Rules.{Rules, Lawful, accept, justBelow, ticketDue, judged}
+use Rattle.replay.specs.Rules.{Rules, Lawful, accept, justBelow, ticketDue, verdict}
 use Rattle.replay.specs.Demand3.{Call, Answer, Done, State, depth, cameTo, withoutLast, stand, Replay}
 use Rattle.replay.specs.Machine.{acted, undoAll, undone}
 use Rattle.replay.proofs.Ways.{Way, stays, acts, goes, refused-nothing}
@@ -34,7 +34,7 @@ module _ (R : Rules) where
   pub record Led (x : Done Op Reply) (u w : View) : Type 0 where
     pub counter : ℕ
     pub due : x .ticket ≡ ticketDue R (x .operation) counter
-    pub accepts : judged R (x .operation) counter u ≡ accept (x .reply) w
+    pub accepts : verdict R (x .operation) counter u ≡ accept (x .reply) w
 
   -- The operations d led from the view v to w.
   abbrev pub LedBy : View → List (Done Op Reply) → View → Type 0

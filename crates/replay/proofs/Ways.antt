@@ -4,7 +4,7 @@ use mathlib.Core.Path.{_≡_, refl, sym, subst}
 use mathlib.Core.Bool.{Bool, true, false, cond}
 use lib.Dec.{T, leb, leb→le}
 use lib.ListN.{length}
-use Rattle.replay.specs.Rules.{Rules, Outcome, refuse, accept, ticketDue, judged}
+use Rattle.replay.specs.Rules.{Rules, Outcome, refuse, accept, ticketDue, verdict}
 use Rattle.replay.specs.Demand3.{Call, op, back, Answer, took, wentBack, refused, nothing, State, cameTo}
 use Rattle.replay.specs.Demand3.{opAnswer, backAnswer}
 use Rattle.replay.specs.Machine.{acted, undone, step}
@@ -21,11 +21,11 @@ module _ (R : Rules) where
   -- A call on the state s gives the state and the answer y: it is refused and the state stays, or the operation acts, or the session goes back.
   pub data Way (s : State View Entry) : Call Op → State View Entry × Answer Reply → Type 0 where
     stays : {c : Call Op} (n : ℕ) → Way s c (s, refused n)
-    acts : (o : Op) (r : Reply) (w : View) → judged R o (s .counter) (s .view) ≡ accept r w
+    acts : (o : Op) (r : Reply) (w : View) → verdict R o (s .counter) (s .view) ≡ accept r w
         → Way s (op o) (acted R o s (accept r w), took (ticketDue R o (s .counter)) r)
     goes : (k : ℕ) → k ≤ length (s .log) → Way s (back k) (undone R k s, wentBack (length (s .log) - k))
 
-  way-op : (s : State View Entry) (o : Op) (x : Outcome View Reply) → judged R o (s .counter) (s .view) ≡ x
+  way-op : (s : State View Entry) (o : Op) (x : Outcome View Reply) → verdict R o (s .counter) (s .view) ≡ x
       → Way s (op o) (acted R o s x, opAnswer (ticketDue R o (s .counter)) x)
   unfolding acted opAnswer
   way-op s o (refuse n) e = stays n
@@ -38,7 +38,7 @@ module _ (R : Rules) where
 
   pub way : (s : State View Entry) (c : Call Op) → Way s c (step R s c)
   unfolding step backAnswer
-  way s (op o) = way-op s o (judged R o (s .counter) (s .view)) refl
+  way s (op o) = way-op s o (verdict R o (s .counter) (s .view)) refl
   way s (back k) = way-back s k (leb k (length (s .log))) refl
 
   stays-same : (s : State View Entry) (c : Call Op) (y : State View Entry × Answer Reply) (n : ℕ) → Way s c y → y .1 ≡ refused n → y .0 ≡ s

@@ -9,7 +9,7 @@ use mathlib.Core.Bool.{cond}
 use mathlib.Core.List.{List, [], _∷_, _++_}
 use lib.Dec.{leb}
 use lib.ListN.{length, take, getD}
-use Rattle.replay.specs.Rules.{Rules, Outcome, refuse, accept, justBelow, ticketDue, judged}
+use Rattle.replay.specs.Rules.{Rules, Outcome, refuse, accept, justBelow, ticketDue, verdict}
 
 -- the entries that are kept at most
 unfoldable pub depth : ℕ
@@ -179,7 +179,7 @@ module _ {R : Rules} (S : Session R) where
     -- a refused call leaves every byte as it was
     pub refusal-same : (m : ℕ) → a ≡ refused m → b′ ≡ b
     -- an operation is answered as the rules say
-    pub op-answered : (o : Op) → c ≡ op o → a ≡ opAnswer (ticketDue R o (counterIn b)) (judged R o (counterIn b) (viewIn b))
+    pub op-answered : (o : Op) → c ≡ op o → a ≡ opAnswer (ticketDue R o (counterIn b)) (verdict R o (counterIn b) (viewIn b))
     -- a step back of k is accepted exactly when k is at most n
     pub back-answered : (k : ℕ) → c ≡ back k → a ≡ backAnswer R k n
     -- the counter never falls

@@ -4,7 +4,7 @@ use mathlib.Core.Bool.{cond}
 use mathlib.Core.List.{List, [], _∷_}
 use lib.Dec.{leb}
 use lib.ListN.{length, take, drop}
-use Rattle.replay.specs.Rules.{Rules, Outcome, refuse, accept, ticketDue, judged, counterAfter}
+use Rattle.replay.specs.Rules.{Rules, Outcome, refuse, accept, ticketDue, verdict, counterAfter}
 use Rattle.replay.specs.Demand3.{Call, op, back, Answer, State, depth, opAnswer, backAnswer}
 
 module _ (R : Rules) where
@@ -36,5 +36,5 @@ module _ (R : Rules) where
 
   -- ONE CALL: the state after it, and the answer. A step back by more entries than are kept changes nothing
   unfoldable pub step : State View Entry → Call Op → State View Entry × Answer Reply
-  step s (op o) = (acted o s (judged R o (s .counter) (s .view)), opAnswer (ticketDue R o (s .counter)) (judged R o (s .counter) (s .view)))
+  step s (op o) = (acted o s (verdict R o (s .counter) (s .view)), opAnswer (ticketDue R o (s .counter)) (verdict R o (s .counter) (s .view)))
   step s (back k) = (cond (leb k (length (s .log))) (undone k s) s, backAnswer R k (length (s .log)))

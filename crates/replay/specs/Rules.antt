@@ -48,8 +48,8 @@ module _ (R : Rules) where
   ticketDue o c = cond (grants o) (ticketFor o c) 0
 
   -- what the rules say of an operation where the counter stands at c
-  unfoldable pub judged : Op → ℕ → View → Outcome View Reply
-  judged o c v = act o c (ticketDue o c) v
+  unfoldable pub verdict : Op → ℕ → View → Outcome View Reply
+  verdict o c v = act o c (ticketDue o c) v
 
   -- the counter after an accepted operation: the ticket, if it is a grant
   unfoldable pub counterAfter : Op → ℕ → ℕ
@@ -58,12 +58,12 @@ module _ (R : Rules) where
   -- What must be proved of the rules: of an operation that is accepted where the counter stands at c and the view v is sound.
   pub record Lawful : Type 0 where
     -- it leads to a sound view
-    pub act-sound : (o : Op) (c : ℕ) (v w : View) (r : Reply) → Sound v → judged o c v ≡ accept r w → Sound w
+    pub act-sound : (o : Op) (c : ℕ) (v w : View) (r : Reply) → Sound v → verdict o c v ≡ accept r w → Sound w
     -- its entry leads from the view after it back to the view before it
-    pub undo-save : (o : Op) (c : ℕ) (v w : View) (r : Reply) → Sound v → judged o c v ≡ accept r w → undo (save o (ticketDue o c) v) w ≡ v
+    pub undo-save : (o : Op) (c : ℕ) (v w : View) (r : Reply) → Sound v → verdict o c v ≡ accept r w → undo (save o (ticketDue o c) v) w ≡ v
     -- it is accepted alike where the counter stands just below its ticket
-    pub act-again : (o : Op) (c : ℕ) (v w : View) (r : Reply) → Sound v → judged o c v ≡ accept r w
+    pub act-again : (o : Op) (c : ℕ) (v w : View) (r : Reply) → Sound v → verdict o c v ≡ accept r w
         → act o (justBelow (ticketDue o c)) (ticketDue o c) v ≡ accept r w
     -- if it is a grant, its ticket is above the counter, and not above the last ticket
-    pub ticket-fits : (o : Op) (c : ℕ) (v w : View) (r : Reply) → Sound v → judged o c v ≡ accept r w → grants o ≡ true
+    pub ticket-fits : (o : Op) (c : ℕ) (v w : View) (r : Reply) → Sound v → verdict o c v ≡ accept r w → grants o ≡ true
         → (c < ticketDue o c) × (ticketDue o c ≤ lastTicket)

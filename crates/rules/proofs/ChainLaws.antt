@@ -47,11 +47,6 @@ either-first a b e = ap (λ (x : Bool). x || b) e
 pub either-next : (a b r : Bool) → a ≡ false → r ≡ b → r ≡ (a || b)
 either-next a b r e f = f ∙ sym (ap (λ (x : Bool). x || b) e)
 
--- and neither holds where the two do not
-pub neither : (a b : Bool) → (a || b) ≡ false → (a ≡ false) × (b ≡ false)
-neither true b e = absurd (true≢false e)
-neither false b e = (refl, e)
-
 -- ---- rulings
 
 -- a ground refuses, and where there is none the operation does what it does

@@ -23,7 +23,7 @@ use Rattle.rules.specs.declared.ruling.Ruling.{Ruling}
 use Rattle.rules.specs.Effect.{rowOnly}
 use Rattle.rules.specs.Named.{nameGround}
 use Rattle.rules.specs.Refusals.{badPosition, badLocation, noSuchOrder}
-use Rattle.rules.specs.Ruling.{acceptedWith, refusedWith, accepted}
+use Rattle.rules.specs.Ruling.{acceptedWith, refusedWith, ruling}
 
 pub data Deed : Type 0 where
   -- 91 condition flags
@@ -65,13 +65,13 @@ unfoldable pub stepTaken : Train → Step → Train
 stepTaken t s = cond (eqb (s .priority) 0) t (withMode t (s .mode))
 
 -- a mode step, refused with the step's own number
-unfoldable pub stepped : Train → Step → Changed
-stepped t s =
+unfoldable pub modeStepped : Train → Step → Changed
+modeStepped t s =
     cond (eqb (s .answer) 0) (changedWith (acceptedWith (s .mode) (s .priority) (s .tie)) (stepTaken t s)) (changedWith (refusedWith (s .answer)) t)
 
 -- WHAT EACH DEED DOES to a train
 unfoldable pub done : Deed → Train → Changed
-done (flags fs) t = stepped t (nextStep (t .mode) fs)
+done (flags fs) t = modeStepped t (nextStep (t .mode) fs)
 done (position front rear) t = changedIf (isPosition front rear) badPosition t (withPosition t front rear)
 done (authority end) t = changedIf (isNoneOrLocation end) badLocation t (withAuthority t (locationFrom end))
 done (danger location) t = changedIf (isNoneOrLocation location) badLocation t (withDanger t (locationFrom location))
@@ -85,7 +85,7 @@ deedGround n changed = nameGround n (changed .answer .answer)
 
 -- a deed done: one row is changed
 abbrev pub deedDone : Ticket → Named → Changed → Ruling
-deedDone counter n changed = accepted (changed .answer) counter (rowOnly (n .row) (changed .train))
+deedDone counter n changed = ruling (changed .answer) counter (rowOnly (n .row) (changed .train))
 
 -- THE EFFECTIVE END of a named train, asked: nothing is changed
 unfoldable pub endAsked : Named → Answer

@@ -16,7 +16,7 @@ use Rattle.rules.specs.declared.named.Named.{Named}
 use Rattle.rules.specs.declared.ruling.Ruling.{Ruling}
 use Rattle.rules.specs.Effect.{change, rowsOnly}
 use Rattle.rules.specs.Refusals.{badLoco, noLiveTrain, sameTrain, badGrid, noClass, notApplicable, noPosition, noPlace}
-use Rattle.rules.specs.Ruling.{acceptedWith, accepted, when, unless}
+use Rattle.rules.specs.Ruling.{acceptedWith, ruling, when, unless}
 
 -- ---- one train's share
 
@@ -80,6 +80,6 @@ unfoldable pub raised : ℕ → ℕ → Ticket → Named → Named → Ruling
 raised margin grid counter l2 l1 =
     let t2 : Train = l2 .train in
     let t1 : Train = l1 .train in
-    accepted (acceptedWith (measureOf (cellFor grid t2)) (aspectOf (cellFor grid t2)) 0) counter
+    ruling (acceptedWith (measureOf (cellFor grid t2)) (aspectOf (cellFor grid t2)) 0) counter
     (rowsOnly (change (l2 .row) (shareTaken (shareFor2 margin grid t2 t1) (t1 .ticket) t2))
     (change (l1 .row) (shareTaken (shareFor1 grid t2 t1) (t2 .ticket) t1)))

@@ -15,7 +15,7 @@ use Rattle.rules.specs.declared.ruling.Ruling.{Ruling}
 use Rattle.rules.specs.declared.slots.FreeRun.{FreeRun}
 use Rattle.rules.specs.Effect.{noRow, rowAndRun}
 use Rattle.rules.specs.Refusals.{badLoco, badBytes, alreadyRegistered, registerFull, noTicketLeft, noFreeRun}
-use Rattle.rules.specs.Ruling.{acceptedWith, accepted, when, unless}
+use Rattle.rules.specs.Ruling.{acceptedWith, ruling, when, unless}
 use Rattle.rules.specs.Slots.{isRequest, slotsFor, lowestRun, isRunFound, startOf}
 use Rattle.rules.specs.View.{View, findIn}
 
@@ -50,7 +50,7 @@ rowOfFound (Index row) = row
 -- a train granted: in a row, under a ticket, which is the counter afterwards, with its slots taken
 unfoldable pub granted : Loco → ℕ → Ticket → ℕ → Slot → Ruling
 granted loco slots ticket row start =
-    accepted (acceptedWith (ticket .0) (start .0) slots) ticket (rowAndRun row (freshTrain loco ticket start slots) start slots true)
+    ruling (acceptedWith (ticket .0) (start .0) slots) ticket (rowAndRun row (freshTrain loco ticket start slots) start slots true)
 
 -- REQUEST under a ticket: the first empty row, and the lowest start where its slots are free
 abbrev pub requested : ℕ → Loco → ℕ → Ticket → View → Ruling
@@ -62,4 +62,4 @@ requested perSlot loco bytes ticket v =
 -- RELEASE: the row is blank, and its slots are free at once
 unfoldable pub released : Ticket → Named → Ruling
 released counter n =
-    accepted (acceptedWith 0 0 0) counter (rowAndRun (n .row) blankTrain (n .train .start) (n .train .slots) false)
+    ruling (acceptedWith 0 0 0) counter (rowAndRun (n .row) blankTrain (n .train .start) (n .train .slots) false)

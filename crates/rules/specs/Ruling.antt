@@ -33,13 +33,13 @@ refusedWith ground = record { answer = ground; first = 0; second = 0; third = 0 
 abbrev pub accepts : Answer → Bool
 accepts a = eqb (a .answer) 0
 
--- an operation that is accepted
-abbrev pub accepted : Answer → Ticket → Effect → Ruling
-accepted answer counter effect = record { answer = answer; counter = counter; effect = effect }
+-- a ruling by its three parts
+abbrev pub ruling : Answer → Ticket → Effect → Ruling
+ruling answer counter effect = record { answer = answer; counter = counter; effect = effect }
 
 -- an operation that is refused: the counter stays, and there is no effect
 abbrev pub refused : Ticket → ℕ → Ruling
-refused counter ground = accepted (refusedWith ground) counter noEffect
+refused counter ground = ruling (refusedWith ground) counter noEffect
 
 -- refused on a ground; or, where there is none, what the operation does
 unfoldable pub ruled : Ticket → ℕ → Ruling → Ruling

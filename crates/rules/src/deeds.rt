@@ -10,7 +10,7 @@ use trains::ranges;
 use trains::record::Location;
 use trains::record::Train;
 ghost use mathlib.Core.Path.{_≡_};
-ghost use Rattle.rules.specs.Deeds.{meant, endAnswer, changedIf, stepTaken, stepped, done, deedGround, deedDone, endAsked};
+ghost use Rattle.rules.specs.Deeds.{meant, endAnswer, changedIf, stepTaken, modeStepped, done, deedGround, deedDone, endAsked};
 ghost use Rattle.rules.specs.Ruling.{ruled};
 
 // Flags are lent beside the deed, since an enum holds no slice.
@@ -69,7 +69,7 @@ fn take_step(train: Train, step: Step) -> Train
 
 // A mode step, refused with the step's own number.
 fn step(train: Train, step: Step) -> Changed
-    ensures { λ r. ⌜ r ≡ stepped train step ⌝ }
+    ensures { λ r. ⌜ r ≡ modeStepped train step ⌝ }
 {
     if step.answer != 0 {
         return Changed {

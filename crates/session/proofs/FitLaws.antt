@@ -22,7 +22,7 @@ use Rattle.trains.specs.declared.record.Train.{Train}
 use Rattle.trains.proofs.RangeLaws.{position-ends}
 use Rattle.rows.proofs.FitLaws.{Byte, Word, LocationFits, Fits, fits-read, fits-fresh, fits-position, fits-authority, fits-danger, fits-mode, fits-cleared}
 use Rattle.rows.proofs.RowLaws.{row-zeros}
-use Rattle.rules.specs.Deeds.{Deed, flags, position, authority, danger, clear, done, changedIf, changedWith, stepTaken, stepped, endAnswer}
+use Rattle.rules.specs.Deeds.{Deed, flags, position, authority, danger, clear, done, changedIf, changedWith, stepTaken, modeStepped, endAnswer}
 use Rattle.rules.specs.Named.{namedIn}
 use Rattle.rules.specs.Raising.{cellFor, shareFor2, shareFor1, raised}
 use Rattle.rules.specs.Registering.{ticketFor, granted, released}
@@ -69,9 +69,9 @@ step-fits t s f m = go (eqb (s .priority) 0)
     go true = f
     go false = fits-mode t (s .mode) f m
 
-stepped-fits : (t : Train) (s : Step) → Fits t → (s .answer ≡ 0 → Byte (s .mode)) → Fits (stepped t s .train)
-unfolding stepped
-stepped-fits t s f m = go (eqb (s .answer) 0) refl
+modeStepped-fits : (t : Train) (s : Step) → Fits t → (s .answer ≡ 0 → Byte (s .mode)) → Fits (modeStepped t s .train)
+unfolding modeStepped
+modeStepped-fits t s f m = go (eqb (s .answer) 0) refl
   where
     go : (b : Bool) → eqb (s .answer) 0 ≡ b
         → Fits (cond b (changedWith (record { answer = 0; first = s .mode; second = s .priority; third = s .tie }) (stepTaken t s)) (changedWith (refusedWith (s .answer)) t) .train)
@@ -86,7 +86,7 @@ changed-fits false ground before after f g = f
 -- a deed leaves a train that fits
 deed-fits : (d : Deed) (t : Train) → Fits t → Fits (done d t .train)
 unfolding done
-deed-fits (flags fs) t f = stepped-fits t (nextStep (t .mode) fs) f (next-fits (t .mode) fs)
+deed-fits (flags fs) t f = modeStepped-fits t (nextStep (t .mode) fs) f (next-fits (t .mode) fs)
 deed-fits (position front rear) t f =
     changed-fits (isPosition front rear) _ t _ f
     (λ e. let ends = position-ends front rear e in fits-position t front rear f (omega arith) (omega arith))

@@ -4,7 +4,7 @@ use Prim.Native.Nat.{ℕ, _-_, _^_, _<_}
 use native.Mathlib.Omega.{arith}
 use lib.Dec.{eqb}
 use Rattle.rows.proofs.FitLaws.{Word, PositionFits, LimitFits, Fits, fits-order}
-use Rattle.sos.specs.Shares.{ownFront, behind, when, shareOfL1, shareBehind, shareOfL2}
+use Rattle.sos.specs.Shares.{ownFront, behind, byMeasure, shareOfL1, shareBehind, shareOfL2}
 use Rattle.sos.specs.declared.shares.Share.{Share}
 use Rattle.sos.specs.declared.shares.Share.the-variants.{Nothing, NoPosition, Order}
 use Rattle.trains.specs.declared.kinds.Ticket.{Ticket}
@@ -43,25 +43,25 @@ either-fits true x y f g = f
 either-fits false x y f g = g
 
 -- a measure's share and those of the others
-when-fits : (measure m : ℕ) (x y : Share) → ShareFits x → ShareFits y → ShareFits (when measure m x y)
-when-fits measure m x y f g = either-fits (eqb measure m) x y f g
+byMeasure-fits : (measure m : ℕ) (x y : Share) → ShareFits x → ShareFits y → ShareFits (byMeasure measure m x y)
+byMeasure-fits measure m x y f g = either-fits (eqb measure m) x y f g
 
 pub share-of-l1-fits : (measure : ℕ) (l1 : Train) → Fits l1 → ShareFits (shareOfL1 measure l1)
 unfolding shareOfL1
 share-of-l1-fits measure l1 f =
-    when-fits measure 4 _ _ (own-front-fits (l1 .track .position) (f .track .position))
-    (when-fits measure 6 _ _ bare-fits
+    byMeasure-fits measure 4 _ _ (own-front-fits (l1 .track .position) (f .track .position))
+    (byMeasure-fits measure 6 _ _ bare-fits
     nothing-fits)
 
 pub share-of-l2-fits : (measure : ℕ) (l1 l2 : Train) (distance : ℕ) → Fits l1 → Fits l2 → ShareFits (shareOfL2 measure l1 l2 distance)
 unfolding shareBehind
 share-of-l2-fits measure l1 l2 distance f g =
     let own : ShareFits (ownFront (l2 .track .position)) = own-front-fits (l2 .track .position) (g .track .position) in
-    when-fits measure 2 _ _ (behind-fits (l1 .track .position) distance (f .track .position))
-    (when-fits measure 3 _ _ own
-    (when-fits measure 4 _ _ own
-    (when-fits measure 5 _ _ bare-fits
-    (when-fits measure 6 _ _ bare-fits
+    byMeasure-fits measure 2 _ _ (behind-fits (l1 .track .position) distance (f .track .position))
+    (byMeasure-fits measure 3 _ _ own
+    (byMeasure-fits measure 4 _ _ own
+    (byMeasure-fits measure 5 _ _ bare-fits
+    (byMeasure-fits measure 6 _ _ bare-fits
     nothing-fits))))
 
 -- a train that takes such a share under a ticket that fits

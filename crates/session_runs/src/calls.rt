@@ -1,7 +1,6 @@
 // The calls by kind. 0 is start; 1 to 9 are the kinds of a recording, here with numbers of any size; 10 asks for a named train's end, 11
 // for the train in a row, 12 for the counter, the entries kept and the slots; 13 lets a loco request and release again and again.
 use crate::lines;
-use crate::parts;
 use rules::deeds::Deed;
 use rules::ruling::Answer;
 use session::operations;
@@ -27,7 +26,7 @@ fn ticket(given: &[u8]) -> Ticket {
 
 // The bytes behind loco and ticket.
 fn flags(given: &[u8], session: &mut [u8]) -> Answer {
-    let start = parts::at_most(8, given.len());
+    let start = numbers::at_most(8, given.len());
     operations::on(
         session,
         loco(given),

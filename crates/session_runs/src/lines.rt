@@ -3,6 +3,7 @@ use libc::STDOUT_FILENO;
 use rules::ruling::Answer;
 use session::questions;
 use trains::kinds::Slot;
+use trains::kinds::Ticket;
 use trains::orders::ORDERS;
 use trains::record::Limit;
 use trains::record::Location;
@@ -62,7 +63,7 @@ fn limit(l: Limit) {
 
 fn order(o: Order) {
     let stops_at = o.limit;
-    if o.other.0 == 0 {
+    if o.other.is(Ticket(0)) {
         text(b" - -");
     } else {
         number(o.other.0);

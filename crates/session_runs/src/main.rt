@@ -23,9 +23,9 @@ fn run_first(s: &[u8], bytes: &mut [u8]) -> usize
     ensures { λ r. ⌜ (0 < r) × (r ≤ 65540) ⌝ }
 {
     let next = HEADER + parts::small(numbers::half_at(s, 3));
-    let end = parts::at_most(next, s.len());
-    let start = parts::at_most(HEADER, end);
-    let lent = parts::at_most(parts::small(numbers::half_at(s, 1)), bytes.len());
+    let end = numbers::at_most(next, s.len());
+    let start = numbers::at_most(HEADER, end);
+    let lent = numbers::at_most(parts::small(numbers::half_at(s, 1)), bytes.len());
     calls::run(numbers::byte_at(s, 0), &s[start..end], &mut bytes[..lent]);
     next
 }

@@ -1,11 +1,5 @@
-// Places in the input that are never past an end.
-ghost use Prim.Native.Nat.{_<_, _≤_};
-
-pub(crate) fn at_most(n: usize, most: usize) -> usize
-    ensures { λ r. ⌜ (r ≤ n) × (r ≤ most) ⌝ }
-{
-    if n < most { n } else { most }
-}
+// Lengths in the input.
+ghost use Prim.Native.Nat.{_<_};
 
 // A number of 2 bytes as a length.
 pub(crate) fn small(n: u32) -> usize

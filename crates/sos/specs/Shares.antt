@@ -20,24 +20,24 @@ behind Unknown margin = NoPosition
 behind (Between front rear) margin = Order (To (rear - margin))
 
 -- a measure that gives something, and the measures after it
-abbrev pub when : ℕ → ℕ → Share → Share → Share
-when measure m this others = cond (eqb measure m) this others
+abbrev pub byMeasure : ℕ → ℕ → Share → Share → Share
+byMeasure measure m this others = cond (eqb measure m) this others
 
 -- M4: L1 to its own front. M6: bare
 unfoldable pub shareOfL1 : ℕ → Train → Share
 shareOfL1 measure l1 =
-    when measure 4 (ownFront (l1 .track .position))
-    (when measure 6 (Order Bare)
+    byMeasure measure 4 (ownFront (l1 .track .position))
+    (byMeasure measure 6 (Order Bare)
     Nothing)
 
 -- M2: L2 to the rear of the train ahead less the margin. M3 and M4: L2 to its own front. M5 and M6: bare
 unfoldable pub shareBehind : ℕ → Position → Position → ℕ → Share
 shareBehind measure ahead own margin =
-    when measure 2 (behind ahead margin)
-    (when measure 3 (ownFront own)
-    (when measure 4 (ownFront own)
-    (when measure 5 (Order Bare)
-    (when measure 6 (Order Bare)
+    byMeasure measure 2 (behind ahead margin)
+    (byMeasure measure 3 (ownFront own)
+    (byMeasure measure 4 (ownFront own)
+    (byMeasure measure 5 (Order Bare)
+    (byMeasure measure 6 (Order Bare)
     Nothing))))
 
 -- what L2 gets, of an SOS between L1 and L2

@@ -10,7 +10,7 @@ use borrow.Author.Tests.{le-leb, lt-leb, eq-eqb}
 use lib.Dec.{leb}
 use lib.ListN.{length, take}
 use Rattle.numbers.proofs.FieldLaws.{lt-or-le}
-use Rattle.replay.specs.Rules.{accept, refuse, justBelow, ticketDue, judged as outcomeOf, counterAfter}
+use Rattle.replay.specs.Rules.{accept, refuse, justBelow, ticketDue, verdict as outcomeOf, counterAfter}
 use Rattle.replay.specs.Demand3.{Call, op, back, Answer as Words, took, wentBack, refused, State, depth}
 use Rattle.replay.specs.Demand3.{opAnswer, backAnswer as backWords}
 use Rattle.replay.specs.Machine.{acted, undoAll, undone as wound, step}

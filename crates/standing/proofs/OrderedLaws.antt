@@ -8,7 +8,7 @@ use native.Mathlib.Decide.{ℕ-discrete}
 use lib.ListN.{length}
 use Rattle.numbers.proofs.FieldLaws.{lt-or-le}
 use Rattle.replay.specs.Always.{Lasts}
-use Rattle.replay.specs.Rules.{accept, ticketDue, judged, counterAfter}
+use Rattle.replay.specs.Rules.{accept, ticketDue, verdict, counterAfter}
 use Rattle.replay.specs.Demand3.{Call, op, back, History, Starts, Made}
 use Rattle.replay.proofs.Always.{always}
 use Rattle.trains.specs.declared.kinds.Ticket.{Ticket}
@@ -69,7 +69,7 @@ module _ (s : Settings) where
 
   -- so order lasts, step-backs included: the counter never falls, and a higher one takes nothing from it
   pub order-lasts : Lasts (rules s) (λ (c : ℕ) (v : View). InOrder (ticketOf c) v)
-  unfolding judged
+  unfolding verdict
   order-lasts = record {
     by-operation = λ o c v w r sound e order. in-order-after o c v w r e order;
     at-higher = λ c d v l m order. order-higher (ticketOf c) (ticketOf d) v l order;

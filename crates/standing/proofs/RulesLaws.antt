@@ -4,7 +4,7 @@ use mathlib.Core.Bool.{Bool, true, false, cond}
 use Prim.Native.Nat.{ℕ, suc, _≤_, _<_}
 use native.Mathlib.Omega.{arith}
 use borrow.Author.Tests.{eqb-true, eq-eqb, ne-eqb}
-use Rattle.replay.specs.Rules.{Lawful, refuse, accept, justBelow, ticketDue, judged}
+use Rattle.replay.specs.Rules.{Lawful, refuse, accept, justBelow, ticketDue, verdict}
 use Rattle.trains.specs.Kinds.{lastSlot, lastTicket}
 use Rattle.trains.specs.declared.kinds.Ticket.{Ticket}
 use Rattle.trains.proofs.RangeLaws.{one-to}
@@ -134,7 +134,7 @@ module _ (s : Settings) (o : Op) (c : ℕ) (v w : View) (r : Reply) (sound : Sou
       (omega (arith, due-grant s o c g), omega (arith, due-grant s o c g, below))
 
 pub lawful : (s : Settings) → Lawful (rules s)
-unfolding judged
+unfolding verdict
 lawful s =
     record {
       act-sound = λ o c v w r sound e. acts-sound s o c v w r sound e;

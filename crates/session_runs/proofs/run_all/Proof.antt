@@ -1,4 +1,4 @@
--- `session_runs::run_all` is safe and ends: the bytes left fall. Assumes nothing.
+-- `session_runs::run_all` is safe and ends: the bytes left fall.
 use mathlib.Core.Path.{_≡_}
 use Prim.Native.Nat.{_-_, _≤_, _+_}
 use lib.ListN.{length}

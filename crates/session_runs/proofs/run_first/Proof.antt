@@ -1,4 +1,4 @@
--- `session_runs::run_first` is safe, and every call takes some bytes. Assumes nothing.
+-- `session_runs::run_first` is safe, and every call takes some bytes.
 use mathlib.Core.Path.{sym}
 use lib.Seq.{length-take-le}
 use native.Mathlib.Omega.{arith}

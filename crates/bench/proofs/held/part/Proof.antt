@@ -12,8 +12,8 @@ returns : tie.Need-returns
 unfolding stretch
 returns c =
     let a = c .before .before .before .before .args in
-    let end = c .before .before .at-most .ensures .1 in
-    let at = c .before .at-most2 .ensures .1 in (
+    let end = c .before .before .at-most .ensures in
+    let at = c .before .at-most2 .ensures in (
       stretch-within (a .buffer .now) (a .held .at) (a .held .end) _ _ end at,
       omega (arith, at ∙ ap (min (a .held .at)) end),
     )

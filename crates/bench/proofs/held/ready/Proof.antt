@@ -18,7 +18,7 @@ returns-2 c =
     let placed = c .before .before in
     let a = placed .before .before .before .args in
     stays-ready (a .buffer .now) (a .held)
-    (λ more. within-enough (a .buffer .now) (a .held .at) (a .held .end) _ _ longest (placed .before .at-most .ensures .1) (placed .at-most2 .ensures .1) (c .if2 .taken))
+    (λ more. within-enough (a .buffer .now) (a .held .at) (a .held .end) _ _ longest (placed .before .at-most .ensures) (placed .at-most2 .ensures) (c .if2 .taken))
 
 returns-3 : tie.Need-returns-3
 returns-3 c =
@@ -27,7 +27,7 @@ returns-3 c =
     let tested = moved .before .before .before in
     let placed = tested .before in
     let a = placed .before .before .before .args in
-    read-ready (a .buffer .now) _ _ (a .held) (read .read-on .result) _ _ (placed .before .at-most .ensures .1) (placed .at-most2 .ensures .1) (tested .if1 .left)
+    read-ready (a .buffer .now) _ _ (a .held) (read .read-on .result) _ _ (placed .before .at-most .ensures) (placed .at-most2 .ensures) (tested .if1 .left)
     (moved .to-front .ensures) (read .read-on .ensures)
 
 pub ready-spec : {M : Type 1} → statement M

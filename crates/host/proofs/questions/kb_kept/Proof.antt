@@ -1,4 +1,4 @@
--- `host::questions::kb_kept` meets its contract. Assumes nothing.
+-- `host::questions::kb_kept` meets its contract.
 use mathlib.Core.Path.{ap, _∙_}
 use Rattle.host.specs.Told.{numberAnswer}
 use borrow.Author.Needs.{needs}

@@ -1,4 +1,4 @@
--- `host::told::front_number` meets its contract. Assumes nothing.
+-- `host::told::front_number` meets its contract.
 use mathlib.Core.Path.{sym, ap}
 use Rattle.host.specs.Told.{frontNumber}
 use borrow.Author.Needs.{needs}

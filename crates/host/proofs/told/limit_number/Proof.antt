@@ -1,4 +1,4 @@
--- `host::told::limit_number` meets its contract. Assumes nothing.
+-- `host::told::limit_number` meets its contract.
 use mathlib.Core.Path.{sym, ap}
 use Rattle.host.specs.Told.{limitNumber}
 use borrow.Author.Needs.{needs}

@@ -1,4 +1,4 @@
--- `host::told::location_number` meets its contract. Assumes nothing.
+-- `host::told::location_number` meets its contract.
 use mathlib.Core.Path.{sym, ap}
 use Rattle.host.specs.Told.{locationNumber}
 use borrow.Author.Needs.{needs}

@@ -1,4 +1,4 @@
--- `host::told::rear_number` meets its contract. Assumes nothing.
+-- `host::told::rear_number` meets its contract.
 use mathlib.Core.Path.{sym, ap}
 use Rattle.host.specs.Told.{rearNumber}
 use borrow.Author.Needs.{needs}

@@ -1,4 +1,4 @@
--- `host::told::tell` meets its contract. Assumes nothing.
+-- `host::told::tell` meets its contract.
 use Rattle.host.specs.Told.{trainTold}
 use borrow.Author.Needs.{needs}
 use Rattle.host.proofs.told.tell.Statement.{statement}

@@ -1,4 +1,4 @@
--- `host::told::tell_order` meets its contract. Assumes nothing.
+-- `host::told::tell_order` meets its contract.
 use Rattle.host.specs.Told.{orderTold}
 use borrow.Author.Needs.{needs}
 use Rattle.host.proofs.told.tell_order.Statement.{statement}

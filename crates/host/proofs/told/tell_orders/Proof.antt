@@ -1,4 +1,4 @@
--- `host::told::tell_orders` meets its contract. Assumes nothing.
+-- `host::told::tell_orders` meets its contract.
 use mathlib.Core.List.{[], _∷_}
 use Rattle.host.specs.Told.{ordersTold}
 use borrow.Author.Needs.{needs}

@@ -1,4 +1,4 @@
--- `recording::calls::request` meets its contract. Assumes nothing.
+-- `recording::calls::request` meets its contract.
 use Rattle.rules.specs.Rules.{Op}
 use Rattle.recording.specs.Kinds.{among, callBy}
 use Rattle.recording.proofs.CallLaws.{called-op}

@@ -1,4 +1,4 @@
--- `recording::calls::step_back` meets its contract. Assumes nothing.
+-- `recording::calls::step_back` meets its contract.
 use Rattle.recording.specs.Kinds.{among, callBy}
 use Rattle.recording.proofs.CallLaws.{called-back}
 use borrow.Author.Needs.{needs}

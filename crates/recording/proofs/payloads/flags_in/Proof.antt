@@ -1,4 +1,4 @@
--- `recording::payloads::flags_in` meets its contract. Assumes nothing.
+-- `recording::payloads::flags_in` meets its contract.
 use mathlib.Core.Path.{sym}
 use Prim.Native.Nat.{_-_}
 use native.Mathlib.Omega.{arith}

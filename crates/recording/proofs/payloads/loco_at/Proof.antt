@@ -1,4 +1,4 @@
--- `recording::payloads::loco_at` meets its contract. Assumes nothing.
+-- `recording::payloads::loco_at` meets its contract.
 use borrow.Author.Needs.{needs}
 use Rattle.recording.proofs.payloads.loco_at.Statement.{statement}
 use Rattle.recording.proofs.payloads.loco_at.Tie as tie

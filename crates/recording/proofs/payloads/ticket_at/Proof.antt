@@ -1,4 +1,4 @@
--- `recording::payloads::ticket_at` meets its contract. Assumes nothing.
+-- `recording::payloads::ticket_at` meets its contract.
 use borrow.Author.Needs.{needs}
 use Rattle.recording.proofs.payloads.ticket_at.Statement.{statement}
 use Rattle.recording.proofs.payloads.ticket_at.Tie as tie

@@ -1,5 +1,5 @@
 -- `rules::deeds::act` meets its contract.
-use Rattle.rules.specs.Deeds.{meant, changedIf, stepped, done}
+use Rattle.rules.specs.Deeds.{meant, changedIf, modeStepped, done}
 use Rattle.rules.specs.declared.deeds.Deed.{Deed}
 use Rattle.modes.specs.declared.Step.{Step}
 use Rattle.trains.specs.declared.record.Train.{Train}
@@ -12,7 +12,7 @@ returns : tie.Need-returns
 unfolding done
 returns c =
     let a = c .before .before .before .before .before .args in
-    c .step .ensures ∙ ap (stepped (a .train)) (c .before .next-mode .ensures)
+    c .step .ensures ∙ ap (modeStepped (a .train)) (c .before .next-mode .ensures)
     ∙ sym (ap (λ (d : Deed). done (meant d (a .flags .now)) (a .train)) (c .before .before .enum-told .given .1))
 
 returns-2 : tie.Need-returns-2

@@ -1,5 +1,5 @@
 -- `rules::deeds::step` meets its contract.
-use Rattle.rules.specs.Deeds.{stepped}
+use Rattle.rules.specs.Deeds.{modeStepped}
 use mathlib.Core.Path.{_∙_, ap}
 use borrow.Author.Tests.{eq-eqb, ne-eqb}
 use borrow.Author.Needs.{needs}
@@ -7,11 +7,11 @@ use Rattle.rules.proofs.deeds.step.Statement.{statement}
 use Rattle.rules.proofs.deeds.step.Tie as tie
 
 returns : tie.Need-returns
-unfolding stepped
+unfolding modeStepped
 returns c = simp (ne-eqb _ _ (c .before .if1 .taken), c .refused .ensures)
 
 returns-2 : tie.Need-returns-2
-unfolding stepped
+unfolding modeStepped
 returns-2 c = simp (eq-eqb _ _ (c .before .before .if1 .left), c .before .accepted .ensures, c .take-step .ensures)
 
 pub step-spec : {M : Type 1} → statement M

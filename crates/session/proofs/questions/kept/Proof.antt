@@ -1,4 +1,4 @@
--- `session::questions::kept` meets its contract. Assumes nothing.
+-- `session::questions::kept` meets its contract.
 use native.Mathlib.Omega.{arith}
 use Rattle.replay.specs.Demand3.{depth}
 use borrow.Author.Needs.{needs}

@@ -1,4 +1,4 @@
--- `session_runs::calls::turns` is safe and ends: the turns left fall. Assumes nothing.
+-- `session_runs::calls::turns` is safe and ends: the turns left fall.
 use mathlib.Core.Path.{_≡_}
 use lib.ListN.{length}
 use borrow.Author.Needs.{needs}

@@ -1,4 +1,4 @@
--- `session_runs::lines::orders` is safe and ends: the places left fall. Assumes nothing.
+-- `session_runs::lines::orders` is safe and ends: the places left fall.
 use Prim.Native.Nat.{_≤_, _-_}
 use borrow.Author.Needs.{needs}
 use Rattle.session_runs.proofs.lines.orders.Statement.{statement}

@@ -1,4 +1,4 @@
--- `session_runs::lines::slots` is safe and ends: the loop goes up to 46. Assumes nothing.
+-- `session_runs::lines::slots` is safe and ends: the loop goes up to 46.
 use Prim.Native.Nat.{_≤_, _-_}
 use borrow.Author.Needs.{needs}
 use Rattle.session_runs.proofs.lines.slots.Statement.{statement}

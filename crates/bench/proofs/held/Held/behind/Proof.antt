@@ -7,7 +7,7 @@ use Rattle.bench.proofs.held.Held.behind.Tie as tie
 returns : tie.Need-returns
 returns c =
     let a = c .before .before .before .before .args in
-    behind-by (a .self) (a .used) _ _ (c .before .before .before .at-most .ensures .1) (c .at-most2 .ensures .1)
+    behind-by (a .self) (a .used) _ _ (c .before .before .before .at-most .ensures) (c .at-most2 .ensures)
 
 pub behind-spec : {M : Type 1} → statement M
 behind-spec =

@@ -1,4 +1,4 @@
--- `host::told::TrainAnswer::refused` meets its contract. Assumes nothing.
+-- `host::told::TrainAnswer::refused` meets its contract.
 use mathlib.Core.Path.{refl}
 use Rattle.host.specs.Told.{trainRefused}
 use borrow.Author.Needs.{needs}
