@@ -1,5 +1,5 @@
 -- Laws of a step back: the view is the newest entries undone, the log has them off, the counter stays.
-use Prim.Native.Nat.{ℕ, zero, suc, _+_, _*_, _-_, _%_, _^_, _≤_, _<_}
+use Prim.Native.Nat.{ℕ, zero, suc, _+_, _*_, _-_, _%_, _≤_, _<_}
 use mathlib.Core.List.{List, [], _∷_}
 use mathlib.Core.Logic.{⊎-elim, inr}
 use mathlib.Core.Path.{_≡_, refl, sym, ap, _∙_}

@@ -11,11 +11,11 @@ use Rattle.rules.specs.declared.effect.Effect.{Effect}
 use Rattle.store.specs.Layout.{sessionBytes, isSession}
 use Rattle.trains.specs.declared.kinds.Ticket.{Ticket}
 use Rattle.ledger.specs.Back.{steppedBy, steppedIn}
-use Rattle.ledger.specs.Settled.{InBounds, inBounds, settled, settledIn}
+use Rattle.ledger.specs.Settled.{InBounds, canKeep, inBounds, settled, settledIn}
 
 -- what the test means
 pub bounds-mean : (e : Effect) → inBounds e ≡ true → InBounds e
-unfolding inBounds
+unfolding canKeep
 bounds-mean e h =
     let a = and-eq-true-iff (ltb (e .changed .row) rowCount) (leb (e .also .row) rowCount && (ltb (e .start .0) 256 && ltb (e .slots) 256)) .0 h in
     let b = and-eq-true-iff (leb (e .also .row) rowCount) (ltb (e .start .0) 256 && ltb (e .slots) 256) .0 (a .1) in
@@ -23,7 +23,7 @@ bounds-mean e h =
     record { changed = ltb-true _ _ (a .0); also = leb-true _ _ (b .0); start = ltb-true _ _ (c .0); slots = ltb-true _ _ (c .1) }
 
 bounds-hold : (e : Effect) → InBounds e → inBounds e ≡ true
-unfolding inBounds
+unfolding canKeep
 bounds-hold e h = simp (lt-ltb _ _ (h .changed), le-leb _ _ (h .also), lt-ltb _ _ (h .start), lt-ltb _ _ (h .slots))
 
 -- an effect within bounds, taken into a session

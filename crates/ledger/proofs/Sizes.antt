@@ -1,6 +1,5 @@
 -- No change of a session changes the number of its bytes.
 use Prim.Native.Nat.{ℕ, _+_, _*_}
-use mathlib.Core.Bool.{Bool, true, false, cond}
 use mathlib.Core.List.{List}
 use mathlib.Core.Path.{_≡_, _∙_}
 use lib.ListN.{length}

@@ -1,9 +1,9 @@
 -- What moves a session leaves its bytes tidy: effects that fit, taken in, and entries undone.
-use Prim.Native.Nat.{ℕ, zero, suc, _+_, _*_, _-_, _≤_, _<_}
+use Prim.Native.Nat.{ℕ, zero, suc, _+_, _-_, _≤_, _<_}
 use mathlib.Core.Bool.{Bool, true, false}
 use mathlib.Core.List.{List}
 use mathlib.Core.Logic.{⊎-elim, _⊎_, inl, inr}
-use mathlib.Core.Path.{_≡_, refl, sym, ap, _∙_}
+use mathlib.Core.Path.{_≡_, sym, ap, _∙_}
 use native.Mathlib.Omega.{arith}
 use lib.ListN.{length, getD, List·getD-eq-default}
 use Rattle.numbers.specs.Numbers.{numberAt, putNumber}
@@ -16,13 +16,13 @@ use Rattle.rows.proofs.FitLaws.{Fits}
 use Rattle.rules.specs.Effect.{markFor, marked}
 use Rattle.rules.specs.declared.effect.Change.{Change}
 use Rattle.rules.specs.declared.effect.Effect.{Effect}
-use Rattle.store.specs.Layout.{counterAt, bookAt, logAt, rowOffset, runBytes, keptRowBytes, entryBytes, entryOffset, slotsAt, markAt, changedAt, alsoAt, sessionBytes}
+use Rattle.store.specs.Layout.{bookAt, logAt, rowOffset, runBytes, keptRowBytes, entryBytes, entryOffset, changedAt, alsoAt, sessionBytes}
 use Rattle.store.specs.Lent.{Lent}
 use Rattle.store.specs.Stands.{bookOf, counterOf, keptOf, headOf}
 use Rattle.store.specs.Tidy.{TidyRow, Tidy}
 use Rattle.store.proofs.BookLaws.{length-book, marked-below}
-use Rattle.store.proofs.Frames.{Clear, Changes, bytes-stay, number-changes, row-changes, lent-after}
-use Rattle.store.proofs.Stretches.{Outside, stretch-at}
+use Rattle.store.proofs.Frames.{Clear, Changes, number-changes, row-changes, lent-after}
+use Rattle.store.proofs.Stretches.{stretch-at}
 use Rattle.store.proofs.TidyLaws.{tidy-same, tidy-put, tidy-stays, tidy-after}
 use Rattle.store.proofs.ViewLaws.{head-in, entry-room}
 use Rattle.trains.specs.Kinds.{lastSlot}

@@ -27,9 +27,13 @@ pub record InBounds (e : Effect) : Type 0 where
   pub start : e .start .0 < 256
   pub slots : e .slots < 256
 
--- the same as a test
-unfoldable pub inBounds : Effect → Bool
-inBounds e = ltb (e .changed .row) rowCount && (leb (e .also .row) rowCount && (ltb (e .start .0) 256 && ltb (e .slots) 256))
+-- an entry can keep a run and rows i and j
+unfoldable pub canKeep : Run → ℕ → ℕ → Bool
+canKeep run i j = ltb i rowCount && (leb j rowCount && (ltb (run .start .0) 256 && ltb (run .slots) 256))
+
+-- the same as a test: an entry can keep what undoes the effect
+abbrev pub inBounds : Effect → Bool
+inBounds e = canKeep (runBefore e) (e .changed .row) (e .also .row)
 
 -- ---- the entry pushed
 

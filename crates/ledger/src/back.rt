@@ -46,23 +46,16 @@ fn step_one(s: &mut [u8])
     crate::put_header(s, counter, kept, head);
 }
 
-// The latest k entries undone.
-fn undo(s: &mut [u8], k: usize)
-    requires { ⌜ length (now s) ≡ sessionBytes ⌝ }
-    ensures { λ _. ⌜ now (s .exit) ≡ steppedBy k (now (s .entry)) ⌝ }
-{
-    let mut left = k;
-    while left > 0 {
-        step_one(s);
-        left -= 1;
-    }
-}
-
 // The latest k entries undone. Bytes of another length are left alone.
 pub fn step_back(s: &mut [u8], k: usize)
     ensures { λ _. ⌜ now (s .exit) ≡ steppedIn k (now (s .entry)) ⌝ }
 {
-    if layout::is_session(s) {
-        undo(s, k);
+    if !layout::is_session(s) {
+        return;
+    }
+    let mut left = k;
+    while left > 0 {
+        step_one(s);
+        left -= 1;
     }
 }

@@ -13,7 +13,7 @@ ghost use Prim.Native.Nat.{_+_, _<_, _≤_};
 ghost use lib.ListN.{length};
 ghost use Rattle.trains.specs.Sought.{rowCount};
 ghost use Rattle.store.specs.Layout.{sessionBytes, logAt, entryBytes, keptRowBytes};
-ghost use Rattle.ledger.specs.Settled.{InBounds, inBounds, rowKept, entryKept, changePut, pushed, settled, settledIn};
+ghost use Rattle.ledger.specs.Settled.{canKeep, rowKept, entryKept, changePut, pushed, settledIn};
 
 // A row's number kept in the log from a byte on, and behind it the row. Of no row only the number is kept.
 fn keep_row(s: &mut [u8], i: usize, at: usize)
@@ -55,11 +55,26 @@ fn put_change(s: &mut [u8], change: Change)
     }
 }
 
-// An effect that can be taken in.
-fn take_in(s: &mut [u8], counter: Ticket, effect: Effect)
-    requires { ⌜ (length (now s) ≡ sessionBytes) × InBounds effect ⌝ }
-    ensures { λ _. ⌜ now (s .exit) ≡ settled (now (s .entry)) counter effect ⌝ }
+// An entry can keep the run and the rows: row i is the register's, row j too or none, and the run's start and slots are bytes.
+fn can_keep(run: Run, i: usize, j: usize) -> bool
+    ensures { λ r. ⌜ r ≡ canKeep run i j ⌝ }
 {
+    if i >= ROWS {
+        return false;
+    }
+    if j > ROWS {
+        return false;
+    }
+    run.start.0 < 256 && run.slots < 256
+}
+
+// The one way in which an accepted operation changes a session. Bytes of another length, and an effect out of bounds, are left alone.
+pub fn settle(s: &mut [u8], counter: Ticket, effect: Effect)
+    ensures { λ _. ⌜ now (s .exit) ≡ settledIn (now (s .entry)) counter effect ⌝ }
+{
+    if !layout::is_session(s) {
+        return;
+    }
     let start = effect.start;
     let slots = effect.slots;
     let taken = effect.taken;
@@ -68,6 +83,9 @@ fn take_in(s: &mut [u8], counter: Ticket, effect: Effect)
         slots,
         taken: !taken,
     };
+    if !can_keep(before, effect.changed.row, effect.also.row) {
+        return;
+    }
     push(s, counter, before, effect.changed.row, effect.also.row);
     runs::mark_run(
         s,
@@ -79,28 +97,4 @@ fn take_in(s: &mut [u8], counter: Ticket, effect: Effect)
     );
     put_change(s, effect.changed);
     put_change(s, effect.also);
-}
-
-// One row changes, and perhaps another; the run's start and slots are bytes.
-fn in_bounds(effect: Effect) -> bool
-    ensures { λ r. ⌜ r ≡ inBounds effect ⌝ }
-{
-    if effect.changed.row >= ROWS {
-        return false;
-    }
-    if effect.also.row > ROWS {
-        return false;
-    }
-    effect.start.0 < 256 && effect.slots < 256
-}
-
-// The one way in which an accepted operation changes a session. Bytes of another length, and an effect out of bounds, are left alone.
-pub fn settle(s: &mut [u8], counter: Ticket, effect: Effect)
-    ensures { λ _. ⌜ now (s .exit) ≡ settledIn (now (s .entry)) counter effect ⌝ }
-{
-    if layout::is_session(s) {
-        if in_bounds(effect) {
-            take_in(s, counter, effect);
-        }
-    }
 }
