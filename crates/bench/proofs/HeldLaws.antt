@@ -7,8 +7,8 @@ use native.Mathlib.Decide.{decLt}
 use native.Mathlib.Numerals.{add-one}
 use native.Mathlib.Omega.{arith}
 use lib.IntN.{ℤ, pos, negsuc}
-use lib.ListN.{length, take, drop, getD, set, length-take, length-drop, length-set, drop-of-length-le, take-append-drop}
-use lib.Seq.{take-all, take-take, length-take-le, take-nil, drop-nil, drop-drop, take-suc, take-suc-set, drop-set-lt, getD-drop}
+use lib.ListN.{length, take, drop, getD, set, length-drop, drop-of-length-le, take-append-drop}
+use lib.Seq.{take-all, take-take, length-take-le, take-nil, drop-drop, take-suc, take-suc-set, drop-set-lt, getD-drop}
 use borrow.Author.Tests.{ltb-false}
 use borrow.Rule.Slice.PartMut.{putMid, take-put}
 use Rattle.io.specs.Counts.{clamped}

@@ -1,7 +1,7 @@
 -- THE TURNS OF A PLAY ARE THE LISTING: what was handed to the system, what is pending and what is left are the listing of what was read and of
 -- whatever still comes.
 use mathlib.Core.Bool.{Bool, true, false, not, cond, _&&_, _||_}
-use mathlib.Core.Path.{_≡_, refl, sym, ap, ap₂, subst, subst₂, _∙_}
+use mathlib.Core.Path.{_≡_, refl, sym, ap, ap₂, subst, _∙_}
 use mathlib.Core.List.{List, [], _++_, append-assoc, append-nil}
 use Prim.Native.Nat.{ℕ, _+_, _-_, _≤_, _<_}
 use native.Mathlib.Omega.{arith}
@@ -23,9 +23,9 @@ use Rattle.listing.proofs.ListingLaws.{turned, ended, used-inside, not-last, on
 use Rattle.bench.specs.declared.Play.{Play}
 use Rattle.bench.specs.declared.held.Held.{Held}
 use Rattle.bench.specs.declared.pending.Pending.{Pending}
-use Rattle.bench.specs.Held.{stretch, heldBytes, nothingHeld, behindBy, isEnd, IsReady}
-use Rattle.bench.specs.Pending.{pendingBytes, nothingPending, withMore, HasRoom}
-use Rattle.bench.specs.Playing.{Bytes, begunPlay, goesOn, stoppedAt, playedOn, RunsFirst, IsTurn, Turns, none, next, IsPlayed, IsEnded, IsListed}
+use Rattle.bench.specs.Held.{stretch, heldBytes, behindBy, isEnd}
+use Rattle.bench.specs.Pending.{pendingBytes, withMore, HasRoom}
+use Rattle.bench.specs.Playing.{Bytes, begunPlay, goesOn, stoppedAt, playedOn, RunsFirst, IsTurn, Turns, none, next, IsPlayed, IsEnded}
 use Rattle.bench.proofs.HeldLaws.{behind-held}
 use Rattle.bench.proofs.PendingLaws.{text-put}
 

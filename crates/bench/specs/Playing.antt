@@ -6,7 +6,6 @@ use Prim.Native.Nat.{ℕ, _+_, _≤_}
 use lib.ListN.{length}
 use Rattle.lines.specs.Line.{room}
 use Rattle.lines.specs.Text.{runLine, endLine}
-use Rattle.recording.specs.Recorded.{emptySession}
 use Rattle.recording.specs.Running.{mostRecords, ranRecord, bytesAfterRecord}
 use Rattle.recording.specs.declared.running.Ran.{Ran}
 use Rattle.listing.specs.Listing.{textOf, oneIfAccepted, listing}

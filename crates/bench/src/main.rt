@@ -2,11 +2,9 @@
 use held::Held;
 use libc::STDERR_FILENO;
 use listing::turns;
-use listing::turns::Turn;
 use pending::Pending;
-ghost use mathlib.Core.Bool.{true};
 ghost use mathlib.Core.Path.{_≡_};
-ghost use Prim.Native.Nat.{_+_, _≤_, _<_, _^_};
+ghost use Prim.Native.Nat.{_+_, _≤_};
 ghost use lib.ListN.{length};
 ghost use Rattle.lines.specs.Line.{room};
 ghost use Rattle.lines.specs.Text.{runLine};

@@ -3,7 +3,6 @@ mod line;
 
 pub use line::Line;
 pub use line::ROOM;
-ghost use mathlib.Core.Path.{_≡_};
 ghost use Rattle.lines.specs.Line.{IsLineOf};
 ghost use Rattle.lines.specs.Text.{runLine, recordLine, endLine};
 

@@ -1,5 +1,5 @@
 -- A LISTING IN THE MAKING: what was put so far and what is left are the listing.
-use mathlib.Core.Bool.{Bool, true, false}
+use mathlib.Core.Bool.{Bool, false}
 use mathlib.Core.Path.{_≡_, refl, sym, ap, ap₂, subst, _∙_}
 use mathlib.Core.List.{List, [], _∷_, _++_, append-assoc, append-nil}
 use Prim.Native.Nat.{ℕ, _+_, _-_, _*_, _≤_, _<_}
@@ -16,7 +16,6 @@ use Rattle.listing.specs.Listing.{textOf, oneIfAccepted, listedFrom, lis
 use Rattle.listing.specs.Turns.{putAt, isLast, turnOf, left}
 use Rattle.listing.specs.declared.turns.Turn.{Turn}
 use Rattle.listing.specs.Whole.{outputTooSmall, listedInto, IsPutFrom}
-use Rattle.listing.specs.declared.whole.Listed.{Listed}
 use Rattle.listing.proofs.ListingLaws.{turned, ended, used-inside, not-last, one-most}
 use Rattle.listing.proofs.PlacingLaws.{put-none, put-put, put-nothing}
 

@@ -12,7 +12,7 @@ ghost use Rattle.lines.specs.Text.{runLine, endLine};
 ghost use Rattle.recording.specs.Recorded.{emptySession};
 ghost use Rattle.recording.specs.Running.{ranRecord, bytesAfterRecord};
 ghost use Rattle.listing.specs.Listing.{textOf, oneIfAccepted};
-ghost use Rattle.listing.specs.Turns.{putAt, isLast, turnOf};
+ghost use Rattle.listing.specs.Turns.{putAt, turnOf};
 
 // What a turn tells: the bytes of its line, the bytes that the record used, 1 if it was accepted, and whether nothing is listed behind it.
 pub struct Turn {

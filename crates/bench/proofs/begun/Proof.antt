@@ -4,7 +4,6 @@ use mathlib.Core.Path.{ap, ap₂, _∙_}
 use native.Mathlib.Omega.{arith}
 use borrow.Author.Needs.{needs}
 use Rattle.bench.specs.declared.pending.Pending.{Pending}
-use Rattle.bench.specs.declared.Play.{Play}
 use Rattle.bench.specs.Pending.{withMore}
 use Rattle.bench.proofs.begun.Statement.{statement}
 use Rattle.bench.proofs.begun.Tie as tie

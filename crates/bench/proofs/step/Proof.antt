@@ -1,9 +1,5 @@
 -- `bench::step` meets its contract.
-use mathlib.Core.List.{List}
-use mathlib.Core.Path.{subst}
-use Prim.Native.Nat.{ℕ}
 use borrow.Author.Needs.{needs}
-use Rattle.bench.specs.Playing.{RunsFirst}
 use Rattle.bench.proofs.step.Statement.{statement}
 use Rattle.bench.proofs.step.Tie as tie
 

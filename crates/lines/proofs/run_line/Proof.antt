@@ -1,8 +1,7 @@
 -- `lines::run_line` meets its contract.
 use borrow.Author.Needs.{needs}
-use mathlib.Core.Path.{_≡_, sym, _∙_}
 use native.Mathlib.Omega.{arith}
-use Rattle.lines.specs.Line.{lineOf, withByte, withText}
+use Rattle.lines.specs.Line.{withText}
 use Rattle.lines.specs.Text.{runLine}
 use Rattle.lines.proofs.LineLaws.{written}
 use Rattle.lines.proofs.run_line.Statement.{statement}

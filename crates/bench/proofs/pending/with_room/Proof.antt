@@ -1,5 +1,5 @@
 -- `bench::pending::with_room` meets its contract.
-use mathlib.Core.List.{List, [], _++_, append-nil}
+use mathlib.Core.List.{[], _++_, append-nil}
 use mathlib.Core.Path.{refl, ap, _∙_}
 use Prim.Native.Nat.{ℕ}
 use native.Mathlib.Omega.{arith}

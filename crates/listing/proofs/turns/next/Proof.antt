@@ -1,6 +1,5 @@
 -- `listing::turns::next` meets its contract.
-use mathlib.Core.Path.{refl, ap, _∙_}
-use mathlib.Core.List.{List}
+use mathlib.Core.Path.{ap, _∙_}
 use borrow.Author.Needs.{needs}
 use Rattle.recording.specs.declared.running.Ran.{Ran}
 use Rattle.listing.specs.Listing.{textOf}

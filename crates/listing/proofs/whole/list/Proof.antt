@@ -1,9 +1,7 @@
 -- `listing::whole::list` meets its contract: measuring puts nothing, since it is lent no bytes to put.
-use mathlib.Core.List.{List}
 use mathlib.Core.Path.{ap, _∙_}
 use lib.ListN.{length}
 use borrow.Author.Needs.{needs}
-use Prim.Native.Nat.{ℕ, _≤_, _<_}
 use native.Mathlib.Omega.{arith}
 use Rattle.listing.proofs.WholeLaws.{none-before, list-refused, list-accepted}
 use Rattle.listing.proofs.whole.list.Statement.{statement}
