@@ -32,12 +32,12 @@ pub struct TrainAnswer {
     pub orders: [OrderTold; 4],
 }
 
-fn location_number(place: Location) -> u32
-    ensures { λ r. ⌜ r ≡ locationNumber place ⌝ }
+fn location_number(location: Location) -> u32
+    ensures { λ r. ⌜ r ≡ locationNumber location ⌝ }
 {
-    match place {
+    match location {
         Location::Nowhere => ranges::NONE,
-        Location::At(location) => location,
+        Location::At(metres) => metres,
     }
 }
 

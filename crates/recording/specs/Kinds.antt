@@ -3,14 +3,18 @@
 use mathlib.Core.Bool.{cond}
 use mathlib.Core.List.{List, [], _∷_}
 use Prim.Native.Nat.{ℕ}
-use lib.Dec.{eqb}
-use lib.ListN.{drop}
+use lib.Dec.{eqb, ltb}
+use lib.ListN.{length, drop}
 use Rattle.numbers.specs.Numbers.{numberAt}
 use Rattle.trains.specs.declared.kinds.Loco.{Loco}
 use Rattle.trains.specs.declared.kinds.Ticket.{Ticket}
 use Rattle.replay.specs.Demand3.{Call, op, back}
 use Rattle.rules.specs.Deeds.{Deed, flags, position, authority, danger, clear}
 use Rattle.rules.specs.Rules.{Op, request, release, on, sos}
+
+-- where the flags begin
+abbrev pub flagsAt : ℕ
+flagsAt = 6
 
 -- the loco number at byte i of a payload
 abbrev pub locoAt : List ℕ → ℕ → Loco
@@ -26,7 +30,11 @@ locationAt p i = numberAt 4 p i
 
 -- the flags behind loco and ticket: all the rest
 abbrev pub flagsIn : List ℕ → List ℕ
-flagsIn p = drop 6 p
+flagsIn p = drop flagsAt p
+
+-- where they start in a payload that has any
+unfoldable pub flagsStart : List ℕ → ℕ
+flagsStart p = cond (ltb (length p) flagsAt) 0 flagsAt
 
 -- a kind of record: its number, the length of its payload, and the call that a payload makes
 pub record Kind : Type 0 where

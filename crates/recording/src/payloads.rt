@@ -2,7 +2,8 @@
 use trains::kinds::Loco;
 use trains::kinds::Ticket;
 ghost use mathlib.Core.Path.{_≡_};
-ghost use Rattle.recording.specs.Kinds.{locoAt, ticketAt, flagsIn};
+ghost use Prim.Native.Nat.{_+_};
+ghost use Rattle.recording.specs.Kinds.{locoAt, ticketAt, flagsIn, flagsStart};
 
 // Where the flags begin, behind loco and ticket.
 const FLAGS: usize = 6;
@@ -19,8 +20,9 @@ pub(crate) fn ticket_at(payload: &[u8], i: usize) -> Ticket
     Ticket(numbers::half_at(payload, i))
 }
 
+// They stand where they are in the payload; of one that is too short there are none.
 pub(crate) fn flags_in(payload: &[u8]) -> &[u8]
-    ensures { λ r. ⌜ now r ≡ flagsIn (now (payload .entry)) ⌝ }
+    ensures { λ r. ⌜ (now r ≡ flagsIn (now (payload .entry))) × (r .ptr .1 ≡ payload .entry .ptr .1 + flagsStart (now (payload .entry))) ⌝ }
 {
     if payload.len() < FLAGS {
         &payload[..0]

@@ -108,8 +108,8 @@ limit-number Bare f = omega arith
 limit-number (To x) f = f
 
 -- a part of a row, and the rest of it
-place-fit : (p : Location) → LocationFits p → {ws vs : List ℕ} → Fit ws vs → Fit (8 ∷ 32 ∷ ws) (locationFlag p ∷ locationNumber p ∷ vs)
-place-fit p f r = one (location-flag p) (one (location-number p f) r)
+location-fit : (p : Location) → LocationFits p → {ws vs : List ℕ} → Fit ws vs → Fit (8 ∷ 32 ∷ ws) (locationFlag p ∷ locationNumber p ∷ vs)
+location-fit p f r = one (location-flag p) (one (location-number p f) r)
 
 order-fit : (o : Order) → OrderFits o → {ws vs : List ℕ} → Fit ws vs
     → Fit (32 ∷ 8 ∷ 32 ∷ ws) (o .other .0 ∷ limitFlag (o .limit) ∷ limitNumber (o .limit) ∷ vs)
@@ -127,8 +127,8 @@ row-fit t f =
     (one (position-flag (k .position))
     (one (position-front (k .position) (f .track .position))
     (one (position-rear (k .position) (f .track .position))
-    (place-fit (k .granted) (f .track .granted)
-    (place-fit (k .danger) (f .track .danger)
+    (location-fit (k .granted) (f .track .granted)
+    (location-fit (k .danger) (f .track .danger)
     (order-fit (orderAt (t .orders) 0) (f .orders 0)
     (order-fit (orderAt (t .orders) 1) (f .orders 1)
     (order-fit (orderAt (t .orders) 2) (f .orders 2)
@@ -137,10 +137,10 @@ row-fit t f =
 
 -- ---- the numbers of such a record read back
 
-place-back : (p : Location) → locationBy (locationFlag p) (locationNumber p) ≡ p
+location-back : (p : Location) → locationBy (locationFlag p) (locationNumber p) ≡ p
 unfolding locationBy
-place-back Nowhere = refl
-place-back (At x) = refl
+location-back Nowhere = refl
+location-back (At x) = refl
 
 position-back : (p : Position) → positionBy (positionFlag p) (positionFront p) (positionRear p) ≡ p
 unfolding positionBy
@@ -174,8 +174,8 @@ train-back t f =
       left = t .left;
       track = record {
         position = position-back (t .track .position) i;
-        granted = place-back (t .track .granted) i;
-        danger = place-back (t .track .danger) i;
+        granted = location-back (t .track .granted) i;
+        danger = location-back (t .track .danger) i;
       };
       orders = order-back (orderAt (t .orders) 0) i ∷ order-back (orderAt (t .orders) 1) i
           ∷ order-back (orderAt (t .orders) 2) i ∷ order-back (orderAt (t .orders) 3) i ∷ [];

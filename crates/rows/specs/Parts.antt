@@ -21,7 +21,7 @@ bits sizes = map (λ (n : ℕ). 8 * n) sizes
 
 -- ---- sizes in bytes
 
--- a place: its flag and its location
+-- a location: its flag and its metres
 abbrev pub locationSizes : List ℕ
 locationSizes = 1 ∷ 4 ∷ []
 
@@ -43,7 +43,7 @@ ordersSizes = orderSizes ++ (orderSizes ++ (orderSizes ++ orderSizes))
 
 -- ---- what is put
 
--- 1 for a place, 0 for none
+-- 1 for a location, 0 for none
 abbrev pub locationFlag : Location → ℕ
 locationFlag Nowhere = 0
 locationFlag (At x) = 1
@@ -78,7 +78,7 @@ abbrev pub limitNumber : Limit → ℕ
 limitNumber Bare = 0
 limitNumber (To x) = x
 
--- the numbers of a place
+-- the numbers of a location
 abbrev pub locationValues : Location → List ℕ
 locationValues p = locationFlag p ∷ locationNumber p ∷ []
 
@@ -101,7 +101,7 @@ ordersValues os =
 
 -- ---- what is read
 
--- a place by its flag
+-- a location by its flag
 unfoldable pub locationBy : ℕ → ℕ → Location
 locationBy flag x = cond (eqb flag 0) Nowhere (At x)
 
@@ -113,7 +113,7 @@ limitBy flag x = cond (eqb flag 0) Bare (To x)
 unfoldable pub positionBy : ℕ → ℕ → ℕ → Position
 positionBy flag front rear = cond (eqb flag 0) Unknown (Between front rear)
 
--- the place that numbers read as
+-- the location that numbers read as
 abbrev pub locationOf : List ℕ → Location
 locationOf vs = locationBy (getD vs 0 0) (getD vs 1 0)
 

@@ -47,7 +47,7 @@ fn position(p: Position) {
     }
 }
 
-fn place(p: Location) {
+fn location(p: Location) {
     match p {
         Location::Nowhere => text(b" -"),
         Location::At(x) => number(x),
@@ -93,8 +93,8 @@ pub(crate) fn train(t: Train) {
     number(t.mode);
     number(t.left);
     position(reported);
-    place(granted);
-    place(danger);
+    location(granted);
+    location(danger);
     orders(held);
 }
 

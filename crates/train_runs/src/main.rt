@@ -87,7 +87,7 @@ fn share(s: Share) {
     }
 }
 
-fn place(p: Location) {
+fn location(p: Location) {
     match p {
         Location::Nowhere => text(b" none"),
         Location::At(x) => number(x),
@@ -160,11 +160,11 @@ fn ends() {
     let train = second_train();
     let override_on = train.with_mode(names::OV);
     text(b"ends");
-    place(train.end());
-    place(override_on.end());
-    place(override_on.with_order(Ticket(1), Limit::Bare).end());
-    place(override_on.with_order(Ticket(1), Limit::To(8000)).end());
-    place(train.with_authority(Location::Nowhere).end());
+    location(train.end());
+    location(override_on.end());
+    location(override_on.with_order(Ticket(1), Limit::Bare).end());
+    location(override_on.with_order(Ticket(1), Limit::To(8000)).end());
+    location(train.with_authority(Location::Nowhere).end());
     end_line();
 }
 
@@ -178,7 +178,7 @@ fn yes_or_no(b: bool) {
 
 fn order_line(train: Train) {
     text(b"orders");
-    place(train.end());
+    location(train.end());
     yes_or_no(train.has_order(Ticket(3)));
     yes_or_no(train.has_place(Ticket(9)));
     end_line();
@@ -221,8 +221,8 @@ fn search_lines(bytes: &[u8]) {
 // The ends of the trains in the rows at two bytes.
 fn row_line(bytes: &[u8], a: usize, b: usize) {
     text(b"row");
-    place(row::row_at(bytes, a).end());
-    place(row::row_at(bytes, b).end());
+    location(row::row_at(bytes, a).end());
+    location(row::row_at(bytes, b).end());
     end_line();
 }
 

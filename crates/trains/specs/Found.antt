@@ -1,4 +1,4 @@
--- What a search of numbered places finds.
+-- What a search of numbered things finds.
 use mathlib.Core.Bool.{Bool, true, false, cond}
 use Prim.Native.Nat.{ℕ, zero, suc}
 use Rattle.trains.specs.declared.found.Found.{Found}

@@ -37,6 +37,6 @@ isGrid grid = oneTo gridCount grid
 unfoldable pub isNoneOrLocation : ℕ → Bool
 isNoneOrLocation number = eqb number none || isLocation number
 
--- the place that a number at a boundary stands for
+-- the location that a number at a boundary stands for
 unfoldable pub locationFrom : ℕ → Location
 locationFrom number = cond (eqb number none) Nowhere (At number)

@@ -1,4 +1,4 @@
-// What a search of numbered places finds.
+// What a search of numbered things finds.
 ghost use mathlib.Core.Path.{_≡_};
 ghost use Rattle.trains.specs.Found.{isFound};
 

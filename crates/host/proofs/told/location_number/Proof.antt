@@ -11,7 +11,7 @@ returns c = sym (ap locationNumber (c .enum-told .given .1))
 
 returns-2 : tie.Need-returns-2
 unfolding locationNumber
-returns-2 c = sym (ap locationNumber (c .before .place .given .1))
+returns-2 c = sym (ap locationNumber (c .before .location .given .1))
 
 pub location-number-spec : {M : Type 1} → statement M
 location-number-spec = tie.close (tie.spec (λ c. search needs) (λ c. search needs) returns returns-2)

@@ -17,7 +17,7 @@ use Rattle.ledger.proofs.back.step_one.Tie as tie
 entry-offset-requires : tie.Need-entry-offset-requires
 entry-offset-requires c κs =
     let s = c .before .before .before .before .before .before .before .before .before .before .args .s .now in
-    let place : before depth (headOf s) < depth = before-in depth (headOf s) (head-in s) in
+    let notch : before depth (headOf s) < depth = before-in depth (headOf s) (head-in s) in
     let at = c .before .notch-before .ensures ∙ ap (before depth) (c .before .before .head .ensures) in
     omega arith
 
@@ -32,7 +32,7 @@ put-header-requires : tie.Need-put-header-requires
 unfolding depth
 put-header-requires c κs =
     let s = c .before .before .before .before .before .before .before .before .before .before .before .before .before .before .before .args .s .now in
-    let place : before depth (headOf s) < depth = before-in depth (headOf s) (head-in s) in
+    let notch : before depth (headOf s) < depth = before-in depth (headOf s) (head-in s) in
     let at = c .before .before .before .before .before .before .notch-before .ensures ∙ ap (before depth) (c .before .before .before .before .before .before .before .head .ensures) in
     (omega arith, omega arith)
 

@@ -12,7 +12,7 @@ returns c =
     let made = c .before .before .on in
     called-op _
     (λ i. Op.on (c .before .before .before .before .before .before .loco-at .ensures i) (c .before .before .before .before .before .ticket-at .ensures i)
-    (meant (a .deed) (c .before .before .before .flags-in .ensures i)))
+    (meant (a .deed) (c .before .before .before .flags-in .ensures .0 i)))
     (made .ensures .0) (made .ensures .1)
 
 pub on-spec : {M : Type 1} → statement M
