@@ -5,7 +5,7 @@ use mathlib.Core.Logic.{⊎-elim, _⊎_, inl, inr}
 use mathlib.Core.Path.{_≡_, refl, sym, ap, _∙_}
 use native.Mathlib.Omega.{arith}
 use lib.ListN.{length, getD, set, take, length-set}
-use lib.Seq.{sets, set-out, take-all, take-suc, length-take-le}
+use lib.Seq.{sets, set-out, getD-set-same, getD-set-other, take-all, take-suc, length-take-le}
 use Rattle.numbers.proofs.PieceLaws.{sets-append}
 
 -- one byte more
@@ -30,3 +30,23 @@ sets-room l (x ∷ v) i (suc k) h = sets-room (set l i x) v (suc i) k (rw length
 -- so the first k are all that are stored, where there are no more, or no more have room
 pub sets-most : (l v : List ℕ) (i k : ℕ) → (length v ≤ k) ⊎ (length l ≤ i + k) → sets l i (take k v) ≡ sets l i v
 sets-most l v i k h = ⊎-elim (λ m. ap (sets l i) (take-all k v m)) (λ m. sets-room l v i k m) h
+
+-- a byte outside a run of stores stays
+pub sets-out : (l : List ℕ) (i : ℕ) (vs : List ℕ) (k : ℕ) → (k < i) ⊎ (i + length vs ≤ k) → getD (sets l i vs) k 0 ≡ getD l k 0
+sets-out l i [] k h = refl
+sets-out l i (a ∷ vs) k h =
+    sets-out (set l i a) (suc i) vs k (⊎-elim (λ b. inl (omega arith)) (λ b. inr (omega arith)) h)
+    ∙ getD-set-other l i k a 0 (λ e. ⊎-elim (λ b. omega arith) (λ b. omega arith) h)
+
+-- a byte of the run is what was stored, as far as there is room
+pub sets-in : (l : List ℕ) (i : ℕ) (vs : List ℕ) (k : ℕ) → i + k < length l → k < length vs → getD (sets l i vs) (i + k) 0 ≡ getD vs k 0
+sets-in l i [] k h m = absurd (omega arith)
+sets-in l i (a ∷ vs) zero h m =
+    let e : i + 0 ≡ i = omega arith in
+    ap (λ (n : ℕ). getD (sets (set l i a) (suc i) vs) n 0) e
+    ∙ sets-out (set l i a) (suc i) vs i (inl (omega arith))
+    ∙ getD-set-same l i a 0 (omega arith)
+sets-in l i (a ∷ vs) (suc k) h m =
+    let e : i + suc k ≡ suc i + k = omega arith in
+    ap (λ (n : ℕ). getD (sets (set l i a) (suc i) vs) n 0) e
+    ∙ sets-in (set l i a) (suc i) vs k (rw length-set (omega arith)) (omega arith)

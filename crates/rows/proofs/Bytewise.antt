@@ -62,25 +62,25 @@ unpack-same s t p q (w ∷ ws) h =
     ∷ unpack-same s t (p + w) (q + w) ws
     (λ k l. rw (add-assoc p w k, add-assoc q w k) (h (w + k) (omega arith))) i
 
--- the bits that a number puts are its own
-put-same : (s t : List ℕ) (p q w v k : ℕ) → p + w ≤ 8 * length s → q + w ≤ 8 * length t → k < w
+-- the bits that a number puts are its own, as far as there is room
+put-same : (s t : List ℕ) (p q w v k : ℕ) → p + k < 8 * length s → q + k < 8 * length t → k < w
     → bitAt (put s p w v) (p + k) ≡ bitAt (put t q w v) (q + k)
 unfolding put
 put-same s t p q zero v k hs ht l = absurd (omega arith)
 put-same s t p q (suc w) v k hs ht l =
     ⊎-elim
     (λ e.
-    let at : (u : List ℕ) (b : ℕ) → b + suc w ≤ 8 * length u → bitAt (put (putBit u (b + w) (v % 2)) b w (v / 2)) (b + w) ≡ v % 2 =
+    let at : (u : List ℕ) (b : ℕ) → b + w < 8 * length u → bitAt (put (putBit u (b + w) (v % 2)) b w (v / 2)) (b + w) ≡ v % 2 =
     λ u b f. bit-put-out (putBit u (b + w) (v % 2)) b w (v / 2) (b + w) (inr (omega arith)) ∙ bit-putBit u (b + w) (v % 2) (omega arith) (omega arith) in
-    rw e (at s p hs ∙ sym (at t q ht)))
+    rw e (at s p (omega arith) ∙ sym (at t q (omega arith))))
     (λ m.
     put-same (putBit s (p + w) (v % 2)) (putBit t (q + w) (v % 2)) p q w (v / 2) k
     (rw length-putBit (omega arith)) (rw length-putBit (omega arith)) m)
     (eq-or-lt-of-le {n = k} {m = w} (omega arith))
 
--- the bits that a row puts are those of its numbers
-pub pack-same : (s t : List ℕ) (p q : ℕ) (ws vs : List ℕ) (k : ℕ) → length ws ≡ length vs → p + total ws ≤ 8 * length s
-    → q + total ws ≤ 8 * length t → k < total ws → bitAt (pack s p ws vs) (p + k) ≡ bitAt (pack t q ws vs) (q + k)
+-- the bits that a row puts are those of its numbers, as far as there is room
+pub pack-same : (s t : List ℕ) (p q : ℕ) (ws vs : List ℕ) (k : ℕ) → length ws ≡ length vs → p + k < 8 * length s
+    → q + k < 8 * length t → k < total ws → bitAt (pack s p ws vs) (p + k) ≡ bitAt (pack t q ws vs) (q + k)
 unfolding pack total
 pack-same s t p q [] vs k e hs ht l = absurd (omega arith)
 pack-same s t p q (w ∷ ws) [] k e hs ht l = absurd (omega arith)
@@ -88,7 +88,7 @@ pack-same s t p q (w ∷ ws) (v ∷ vs) k e hs ht l =
     ⊎-elim
     (λ m.
     bit-pack-out (put s p w v) (p + w) ws vs (p + k) (inl (omega arith))
-    ∙ put-same s t p q w v k (omega arith) (omega arith) m
+    ∙ put-same s t p q w v k hs ht m
     ∙ sym (bit-pack-out (put t q w v) (q + w) ws vs (q + k) (inl (omega arith))))
     (λ m.
     let j : ℕ = k - w in

@@ -1,9 +1,9 @@
 -- Laws of the register's searches, for whatever is sought: what is found holds it, no row before it does, and nothing is found
 -- exactly where no row holds it.
 use Prim.Native.Nat.{ℕ, _≤_, _<_}
-use mathlib.Core.Bool.{true, false, not, _&&_, and-eq-true-iff}
+use mathlib.Core.Bool.{Bool, true, false, not, _&&_, and-false, and-eq-true-iff}
 use mathlib.Core.List.{List}
-use mathlib.Core.Path.{_≡_, sym, subst}
+use mathlib.Core.Path.{_≡_, sym, ap, subst, _∙_}
 use native.Mathlib.Omega.{arith}
 use borrow.Author.Tests.{eqb-true, eqb-false, not-true}
 use lib.Dec.{eqb}
@@ -17,9 +17,9 @@ use Rattle.trains.specs.Record.{noLoco}
 use Rattle.trains.proofs.FoundLaws.{Before, first-below, first-true, first-before, first-none}
 use Rattle.trains.proofs.RangeLaws.{one-to}
 use Rattle.trains.specs.declared.sought.Sought.{Sought}
-use Rattle.trains.specs.declared.sought.Sought.the-variants.{Pair, Empty}
+use Rattle.trains.specs.declared.sought.Sought.the-variants.{Pair, Number, Empty}
 use Rattle.trains.specs.Sought.{rowCount, holdsLoco, isSought}
-use Rattle.rows.specs.Register.{rowOf, soughtAt, foundIn}
+use Rattle.rows.specs.Register.{rowOf, locoSought, soughtAt, foundIn}
 
 module _ (s : List ℕ) (at : ℕ) (sought : Sought) where
   -- what is found is one of the 24 rows
@@ -59,6 +59,11 @@ holds-loco-means l wanted e =
     let both = and-eq-true-iff (not (sameLoco l noLoco)) (sameLoco l wanted) .0 e in
     (eqb-true (l .0) (wanted .0) (both .1), eqb-false (l .0) 0 (not-true (eqb (l .0) 0) (both .0)))
 
+-- a row with another loco does not hold the one wanted
+holds-none : (l wanted : Loco) → sameLoco l wanted ≡ false → holdsLoco l wanted ≡ false
+unfolding holdsLoco
+holds-none l wanted e = ap (λ (b : Bool). not (sameLoco l noLoco) && b) e ∙ and-false (not (sameLoco l noLoco))
+
 -- a loco and a ticket together
 pub pair-means : (loco : Loco) (ticket : Ticket) (t : Train) → isSought (Pair loco ticket) t ≡ true
     → ((t .loco .0 ≡ loco .0) × (t .loco .0 ≡ 0 → ⊥)) × ((t .ticket .0 ≡ ticket .0) × ((1 ≤ ticket .0) × (ticket .0 ≤ lastTicket)))
@@ -72,3 +77,10 @@ pair-means loco ticket t e =
 pub empty-means : (t : Train) → isSought Empty t ≡ true → t .loco .0 ≡ 0
 unfolding isSought
 empty-means t e = eqb-true (t .loco .0) 0 e
+
+-- a row with another loco does not hold what is sought
+pub other-loco : (sought : Sought) (t : Train) → sameLoco (t .loco) (locoSought sought) ≡ false → isSought sought t ≡ false
+unfolding isSought locoSought
+other-loco (Pair loco ticket) t e = ap (λ (b : Bool). b && ticketInRange ticket && sameTicket (t .ticket) ticket) (holds-none (t .loco) loco e)
+other-loco (Number loco) t e = holds-none (t .loco) loco e
+other-loco Empty t e = e

@@ -1,14 +1,15 @@
 -- Laws of rows.
-use Prim.Native.Nat.{ℕ, zero, suc, _+_, _*_, _≤_, _<_}
+use Prim.Native.Nat.{ℕ, zero, suc, _+_, _-_, _*_, _≤_, _<_, min}
 use mathlib.Core.List.{List, []}
 use mathlib.Core.Logic.{⊎-elim, _⊎_, inl, inr}
 use mathlib.Core.Path.{_≡_, refl, sym, ap, _∙_}
 use native.Mathlib.Omega.{arith}
-use lib.ListN.{length, getD, take, drop, replicate, length-take, length-drop, length-replicate}
-use lib.Seq.{ext-getD, getD-take, getD-drop}
+use lib.ListN.{length, getD, take, drop, replicate, length-take, length-drop, length-replicate, List·getD-eq-default}
+use lib.Seq.{sets, length-sets, ext-getD, getD-take, getD-drop}
+use Rattle.numbers.proofs.CopyLaws.{sets-out, sets-in}
 use Rattle.numbers.specs.Fields.{bitAt, field}
 use Rattle.numbers.specs.Pieces.{total, unpack, pack}
-use Rattle.numbers.proofs.FieldLaws.{Bytes, same-byte, field-byte}
+use Rattle.numbers.proofs.FieldLaws.{Bytes, same-byte, field-byte, lt-or-le}
 use Rattle.numbers.proofs.PieceLaws.{length-pack, bytes-pack, bit-pack-out, unpack-pack}
 use Rattle.trains.specs.declared.record.Train.{Train}
 use Rattle.trains.specs.Record.{blankTrain}
@@ -140,26 +141,31 @@ byte-apart s at t i hs h =
 abbrev pub rowImage : Train → List ℕ
 rowImage t = putRow (replicate rowBytes 0) 0 t
 
-put-bit : (s u : List ℕ) (a b : ℕ) (t : Train) → a + rowBytes ≤ length s → b + rowBytes ≤ length u
-    → (i k : ℕ) → i < rowBytes → k < 8 → bitAt (putRow s a t) (8 * (a + i) + k) ≡ bitAt (putRow u b t) (8 * (b + i) + k)
+put-bit : (s u : List ℕ) (a b : ℕ) (t : Train) (i k : ℕ) → a + i < length s → b + i < length u → i < rowBytes → k < 8
+    → bitAt (putRow s a t) (8 * (a + i) + k) ≡ bitAt (putRow u b t) (8 * (b + i) + k)
 unfolding putRow
-put-bit s u a b t ls lu i k l m =
+put-bit s u a b t i k ls lu l m =
     let e : 8 * (a + i) + k ≡ 8 * a + (8 * i + k) = omega arith in
     let f : 8 * (b + i) + k ≡ 8 * b + (8 * i + k) = omega arith in
     rw (e, f)
     (pack-same s u (8 * a) (8 * b) (bits rowSizes) (rowValues t) (8 * i + k) refl
-    (omega (arith, row-bits)) (omega (arith, row-bits)) (omega (arith, row-bits)))
+    (omega arith) (omega arith) (omega (arith, row-bits)))
+
+getD-replicate : (n i : ℕ) → _≡_ {A = ℕ} (getD (replicate n 0) i 0) 0
+getD-replicate zero i = refl
+getD-replicate (suc n) zero = refl
+getD-replicate (suc n) (suc i) = getD-replicate n i
 
 zeros-bytes : (n : ℕ) → Bytes (replicate n 0)
 zeros-bytes zero i = omega arith
 zeros-bytes (suc n) zero = omega arith
 zeros-bytes (suc n) (suc i) = zeros-bytes n i
 
-image-byte : (s u : List ℕ) (a b : ℕ) (t : Train) → Bytes s → Bytes u → a + rowBytes ≤ length s → b + rowBytes ≤ length u
-    → (i : ℕ) → i < rowBytes → getD (putRow s a t) (a + i) 0 ≡ getD (putRow u b t) (b + i) 0
-image-byte s u a b t hs hu ls lu i l =
+image-byte : (s u : List ℕ) (a b : ℕ) (t : Train) (i : ℕ) → Bytes s → Bytes u → a + i < length s → b + i < length u → i < rowBytes
+    → getD (putRow s a t) (a + i) 0 ≡ getD (putRow u b t) (b + i) 0
+image-byte s u a b t i hs hu ls lu l =
     sym (field-byte (putRow s a t) (a + i) (bytes-put-row s a t hs (a + i)))
-    ∙ field-same (putRow s a t) (putRow u b t) (8 * (a + i)) (8 * (b + i)) 8 (λ k m. put-bit s u a b t ls lu i k l m)
+    ∙ field-same (putRow s a t) (putRow u b t) (8 * (a + i)) (8 * (b + i)) 8 (λ k m. put-bit s u a b t i k ls lu l m)
     ∙ field-byte (putRow u b t) (b + i) (bytes-put-row u b t hu (b + i))
 
 -- the 67 bytes of a row that was put are those of the record's row, whatever stood there
@@ -176,5 +182,57 @@ row-image s at t hs h =
     let m : i < rowBytes = omega arith in
     getD-take rowBytes (drop at (putRow s at t)) i 0 m
     ∙ getD-drop at (putRow s at t) i 0
-    ∙ image-byte s z at 0 t hs (zeros-bytes rowBytes) h (omega arith) i m
+    ∙ image-byte s z at 0 t i hs (zeros-bytes rowBytes) (omega arith) (omega arith) m
     ∙ ap (λ (n : ℕ). getD (rowImage t) n 0) (omega arith))
+
+-- ---- a row read and put through a copy of its bytes
+
+-- the bytes of a row copied over zeros read as the same record
+pub row-copied : (s : List ℕ) (at : ℕ) → rowAt (sets (replicate rowBytes 0) 0 (take rowBytes (drop at s))) 0 ≡ rowAt s at
+row-copied s at = row-same (sets z 0 v) s 0 at (λ k l. byte k l (lt-or-le k (length v)))
+  where
+    z : List ℕ
+    z = replicate rowBytes 0
+
+    v : List ℕ
+    v = take rowBytes (drop at s)
+
+    byte : (k : ℕ) → k < rowBytes → (k < length v) ⊎ (length v ≤ k) → getD (sets z 0 v) (0 + k) 0 ≡ getD s (at + k) 0
+    byte k l (inl m) =
+        sets-in z 0 v k (rw (length-replicate {A = ℕ} rowBytes 0) (omega arith)) m ∙ getD-take rowBytes (drop at s) k 0 l ∙ getD-drop at s k 0
+    byte k l (inr m) =
+        let lv : length v ≡ min rowBytes (length s - at) = length-take rowBytes (drop at s) ∙ ap (min rowBytes) (length-drop at s) in
+        sets-out z 0 v (0 + k) (inr (omega arith))
+        ∙ getD-replicate rowBytes (0 + k)
+        ∙ sym (List·getD-eq-default s 0 {n = at + k} (omega arith))
+
+-- a record's row copied to where it goes is the record put there; what would be past the end is dropped
+pub image-copied : (s : List ℕ) (at : ℕ) (t : Train) → Bytes s → sets s at (take rowBytes (drop 0 (rowImage t))) ≡ putRow s at t
+image-copied s at t hs =
+    ext-getD 0 (sets s at v) (putRow s at t) (length-sets s at v ∙ sym (length-put-row s at t))
+    (λ j l. byte j (rw length-sets at l) (lt-or-le j at) (lt-or-le j (at + rowBytes)))
+  where
+    z : List ℕ
+    z = replicate rowBytes 0
+
+    v : List ℕ
+    v = take rowBytes (drop 0 (rowImage t))
+
+    lz : length z ≡ rowBytes
+    lz = length-replicate {A = ℕ} rowBytes 0
+
+    lv : length v ≡ rowBytes
+    lv = length-take rowBytes (rowImage t) ∙ rw (length-put-row z 0 t, lz) refl
+
+    byte : (j : ℕ) → j < length s → (j < at) ⊎ (at ≤ j) → (j < at + rowBytes) ⊎ (at + rowBytes ≤ j)
+        → getD (sets s at v) j 0 ≡ getD (putRow s at t) j 0
+    byte j l (inl a) b = sets-out s at v j (inl a) ∙ sym (byte-apart s at t j hs (inl a))
+    byte j l (inr a) (inr b) = sets-out s at v j (inr (omega (arith, lv))) ∙ sym (byte-apart s at t j hs (inr b))
+    byte j l (inr a) (inl b) =
+        let d : ℕ = j - at in
+        let f : j ≡ at + d = omega arith in
+        rw f
+        (sets-in s at v d (omega arith) (omega (arith, lv))
+        ∙ getD-take rowBytes (rowImage t) d 0 (omega arith)
+        ∙ ap (λ (n : ℕ). getD (rowImage t) n 0) (omega arith)
+        ∙ sym (image-byte s z at 0 t d hs (zeros-bytes rowBytes) (omega arith) (omega (arith, lz)) (omega arith)))

@@ -7,6 +7,7 @@ use Rattle.trains.specs.declared.kinds.Loco.{Loco}
 use Rattle.trains.specs.declared.kinds.Ticket.{Ticket}
 use Rattle.trains.specs.declared.record.Train.{Train}
 use Rattle.trains.specs.Found.{first}
+use Rattle.trains.specs.Record.{noLoco}
 use Rattle.trains.specs.Sought.{rowCount, isSought}
 use Rattle.trains.specs.declared.sought.Sought.{Sought}
 use Rattle.trains.specs.declared.sought.Sought.the-variants.{Pair, Number, Empty}
@@ -15,6 +16,12 @@ use Rattle.rows.specs.Row.{rowBytes, rowAt}
 -- row i, 0 to 23, of the register that starts at a byte
 abbrev pub rowOf : List ℕ → ℕ → ℕ → Train
 rowOf s at i = rowAt s (at + rowBytes * i)
+
+-- the loco number of a row that holds what is sought
+unfoldable pub locoSought : Sought → Loco
+locoSought (Pair loco ticket) = loco
+locoSought (Number loco) = loco
+locoSought Empty = noLoco
 
 -- row i of the register holds what is sought
 unfoldable pub soughtAt : List ℕ → ℕ → Sought → ℕ → Bool

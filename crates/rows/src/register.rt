@@ -8,7 +8,7 @@ ghost use mathlib.Core.Path.{_≡_};
 ghost use Prim.Native.Nat.{_<_};
 ghost use Rattle.trains.specs.Sought.{rowCount, isSought};
 ghost use Rattle.trains.specs.declared.sought.Sought.the-variants.{Pair};
-ghost use Rattle.rows.specs.Register.{rowOf, foundIn, findTrain, findLoco, findEmpty};
+ghost use Rattle.rows.specs.Register.{rowOf, locoSought, foundIn, findTrain, findLoco, findEmpty};
 
 fn loco_of(register: &[u8], at: usize, i: usize) -> Loco
     requires { ⌜ i < rowCount ⌝ }
@@ -44,11 +44,24 @@ fn holds_pair(register: &[u8], at: usize, i: usize, loco: Loco, ticket: Ticket) 
     ticket_of(register, at, i).is(ticket)
 }
 
-// Does row i hold what is sought?
+fn loco_sought(sought: Sought) -> Loco
+    ensures { λ r. ⌜ r ≡ locoSought sought ⌝ }
+{
+    match sought {
+        Sought::Pair(loco, _) => loco,
+        Sought::Number(loco) => loco,
+        Sought::Empty => Loco(0),
+    }
+}
+
+// Does row i hold what is sought? Most rows have another loco, and are passed by that alone.
 fn row_holds(register: &[u8], at: usize, i: usize, sought: Sought) -> bool
     requires { ⌜ i < rowCount ⌝ }
     ensures { λ r. ⌜ r ≡ isSought sought (rowOf (now (register .entry)) at i) ⌝ }
 {
+    if !loco_of(register, at, i).is(loco_sought(sought)) {
+        return false;
+    }
     match sought {
         Sought::Pair(loco, ticket) => holds_pair(register, at, i, loco, ticket),
         Sought::Number(loco) => loco_of(register, at, i).holds(loco),

@@ -10,13 +10,67 @@ use trains::record::Track;
 use trains::record::Train;
 ghost use mathlib.Core.Path.{_≡_};
 ghost use Prim.Native.Nat.{_+_, _*_, _^_, _<_};
+ghost use lib.ListN.{replicate};
 ghost use Rattle.numbers.specs.Pieces.{unpack, pack};
 ghost use Rattle.rows.specs.Parts.{bits, locationSizes, positionSizes, trackSizes, orderSizes, ordersSizes, locationBy, limitBy, positionBy, locationOf, trackOf, orderOf, ordersOf};
 ghost use Rattle.rows.specs.Parts.{locationFlag, locationNumber, limitFlag, limitNumber, positionFlag, positionFront, positionRear, locationValues, positionValues, trackValues, orderValues, ordersValues};
-ghost use Rattle.rows.specs.Row.{headSizes, headValues, rowAt, putRow};
+ghost use Rattle.rows.specs.Row.{rowBytes, headSizes, headValues, rowAt, putRow};
+
+const BYTE: usize = 1;
+
+const WORD: usize = 4;
+
+// Offsets in a row, each worked out from the one before it: the head's numbers, the track, and the orders.
+const LOCO: usize = 0;
+
+const TICKET: usize = LOCO + WORD;
+
+const START: usize = TICKET + WORD;
+
+const SLOTS: usize = START + BYTE;
+
+const MODE: usize = SLOTS + BYTE;
+
+const LEFT: usize = MODE + BYTE;
+
+const TRACK: usize = LEFT + BYTE;
+
+const ORDERS: usize = TRACK + TRACK_BYTES;
 
 // The bytes of a row.
-pub const ROW: usize = 67;
+pub const ROW: usize = ORDERS + ORDERS_BYTES;
+
+// In a location: its flag and its number.
+const NUMBER: usize = BYTE;
+
+const LOCATION_BYTES: usize = NUMBER + WORD;
+
+// In a track: the position's flag, front and rear, the granted end, the danger location.
+const FRONT: usize = BYTE;
+
+const REAR: usize = FRONT + WORD;
+
+const GRANTED: usize = REAR + WORD;
+
+const DANGER: usize = GRANTED + LOCATION_BYTES;
+
+const TRACK_BYTES: usize = DANGER + LOCATION_BYTES;
+
+// In an order: the other train's ticket, the limit's flag and the limit.
+const LIMITED: usize = WORD;
+
+const LIMIT: usize = LIMITED + BYTE;
+
+const ORDER_BYTES: usize = LIMIT + WORD;
+
+// The second, third and fourth order behind the first.
+const SECOND: usize = ORDER_BYTES;
+
+const THIRD: usize = SECOND + ORDER_BYTES;
+
+const FOURTH: usize = THIRD + ORDER_BYTES;
+
+const ORDERS_BYTES: usize = FOURTH + ORDER_BYTES;
 
 fn location_by(flag: u32, x: u32) -> Location
     ensures { λ r. ⌜ r ≡ locationBy flag x ⌝ }
@@ -44,69 +98,75 @@ fn position_by(flag: u32, front: u32, rear: u32) -> Position
     }
 }
 
-fn location_at(s: &[u8], i: usize) -> Location
+fn location_at(s: &[u8; ROW], i: usize) -> Location
     requires { ⌜ i + 5 < 2 ^ 64 ⌝ }
     ensures { λ r. ⌜ r ≡ locationOf (unpack (now (s .entry)) (8 * i) (bits locationSizes)) ⌝ }
 {
-    location_by(numbers::byte_at(s, i), numbers::word_at(s, i + 1))
+    location_by(numbers::byte_at(s, i), numbers::word_at(s, i + NUMBER))
 }
 
-fn order_at(s: &[u8], i: usize) -> Order
+fn order_at(s: &[u8; ROW], i: usize) -> Order
     requires { ⌜ i + 9 < 2 ^ 64 ⌝ }
     ensures { λ r. ⌜ r ≡ orderOf (unpack (now (s .entry)) (8 * i) (bits orderSizes)) ⌝ }
 {
     Order {
         other: Ticket(numbers::word_at(s, i)),
-        limit: limit_by(numbers::byte_at(s, i + 4), numbers::word_at(s, i + 5)),
+        limit: limit_by(numbers::byte_at(s, i + LIMITED), numbers::word_at(s, i + LIMIT)),
     }
 }
 
-fn track_at(s: &[u8], i: usize) -> Track
+fn track_at(s: &[u8; ROW], i: usize) -> Track
     requires { ⌜ i + 19 < 2 ^ 64 ⌝ }
     ensures { λ r. ⌜ r ≡ trackOf (unpack (now (s .entry)) (8 * i) (bits trackSizes)) ⌝ }
 {
     Track {
         position: position_by(
             numbers::byte_at(s, i),
-            numbers::word_at(s, i + 1),
-            numbers::word_at(s, i + 5),
+            numbers::word_at(s, i + FRONT),
+            numbers::word_at(s, i + REAR),
         ),
-        granted: location_at(s, i + 9),
-        danger: location_at(s, i + 14),
+        granted: location_at(s, i + GRANTED),
+        danger: location_at(s, i + DANGER),
     }
 }
 
-fn orders_at(s: &[u8], i: usize) -> [Order; 4]
+fn orders_at(s: &[u8; ROW], i: usize) -> [Order; 4]
     requires { ⌜ i + 36 < 2 ^ 64 ⌝ }
     ensures { λ r. ⌜ r ≡ ordersOf (unpack (now (s .entry)) (8 * i) (bits ordersSizes)) ⌝ }
 {
     [
         order_at(s, i),
-        order_at(s, i + 9),
-        order_at(s, i + 18),
-        order_at(s, i + 27),
+        order_at(s, i + SECOND),
+        order_at(s, i + THIRD),
+        order_at(s, i + FOURTH),
     ]
+}
+
+// The record in the bytes of a row.
+fn train_in(row: &[u8; ROW]) -> Train
+    ensures { λ r. ⌜ r ≡ rowAt (now (row .entry)) 0 ⌝ }
+{
+    let track = track_at(row, TRACK);
+    let orders = orders_at(row, ORDERS);
+    Train {
+        loco: Loco(numbers::word_at(row, LOCO)),
+        ticket: Ticket(numbers::word_at(row, TICKET)),
+        start: Slot(numbers::byte_at(row, START)),
+        slots: numbers::byte_at(row, SLOTS),
+        mode: numbers::byte_at(row, MODE),
+        left: numbers::byte_at(row, LEFT),
+        track: track,
+        orders: orders,
+    }
 }
 
 // The record of the row that starts at a byte. Bytes past the end read as 0.
 pub fn row_at(bytes: &[u8], at: usize) -> Train
     ensures { λ r. ⌜ r ≡ rowAt (now (bytes .entry)) at ⌝ }
 {
-    if bytes.len() <= at {
-        return Train::blank();
-    }
-    let track = track_at(bytes, at + 12);
-    let orders = orders_at(bytes, at + 31);
-    Train {
-        loco: Loco(numbers::word_at(bytes, at)),
-        ticket: Ticket(numbers::word_at(bytes, at + 4)),
-        start: Slot(numbers::byte_at(bytes, at + 8)),
-        slots: numbers::byte_at(bytes, at + 9),
-        mode: numbers::byte_at(bytes, at + 10),
-        left: numbers::byte_at(bytes, at + 11),
-        track: track,
-        orders: orders,
-    }
+    let mut row: [u8; ROW] = [0; ROW];
+    numbers::copy(bytes, at, ROW, &mut row, 0);
+    train_in(&row)
 }
 
 fn location_flag(p: Location) -> u32
@@ -172,34 +232,34 @@ fn position_rear(p: Position) -> u32
     }
 }
 
-fn put_location(out: &mut [u8], i: usize, p: Location)
+fn put_location(out: &mut [u8; ROW], i: usize, p: Location)
     requires { ⌜ i + 5 < 2 ^ 64 ⌝ }
     ensures { λ _. ⌜ now (out .exit) ≡ pack (now (out .entry)) (8 * i) (bits locationSizes) (locationValues p) ⌝ }
 {
     numbers::put_byte(out, i, location_flag(p));
-    numbers::put_word(out, i + 1, location_number(p));
+    numbers::put_word(out, i + NUMBER, location_number(p));
 }
 
-fn put_order(out: &mut [u8], i: usize, order: Order)
+fn put_order(out: &mut [u8; ROW], i: usize, order: Order)
     requires { ⌜ i + 9 < 2 ^ 64 ⌝ }
     ensures { λ _. ⌜ now (out .exit) ≡ pack (now (out .entry)) (8 * i) (bits orderSizes) (orderValues order) ⌝ }
 {
     let limit = order.limit;
     numbers::put_word(out, i, order.other.0);
-    numbers::put_byte(out, i + 4, limit_flag(limit));
-    numbers::put_word(out, i + 5, limit_number(limit));
+    numbers::put_byte(out, i + LIMITED, limit_flag(limit));
+    numbers::put_word(out, i + LIMIT, limit_number(limit));
 }
 
-fn put_position(out: &mut [u8], i: usize, p: Position)
+fn put_position(out: &mut [u8; ROW], i: usize, p: Position)
     requires { ⌜ i + 9 < 2 ^ 64 ⌝ }
     ensures { λ _. ⌜ now (out .exit) ≡ pack (now (out .entry)) (8 * i) (bits positionSizes) (positionValues p) ⌝ }
 {
     numbers::put_byte(out, i, position_flag(p));
-    numbers::put_word(out, i + 1, position_front(p));
-    numbers::put_word(out, i + 5, position_rear(p));
+    numbers::put_word(out, i + FRONT, position_front(p));
+    numbers::put_word(out, i + REAR, position_rear(p));
 }
 
-fn put_track(out: &mut [u8], i: usize, track: Track)
+fn put_track(out: &mut [u8; ROW], i: usize, track: Track)
     requires { ⌜ i + 19 < 2 ^ 64 ⌝ }
     ensures { λ _. ⌜ now (out .exit) ≡ pack (now (out .entry)) (8 * i) (bits trackSizes) (trackValues track) ⌝ }
 {
@@ -207,41 +267,49 @@ fn put_track(out: &mut [u8], i: usize, track: Track)
     let granted = track.granted;
     let danger = track.danger;
     put_position(out, i, position);
-    put_location(out, i + 9, granted);
-    put_location(out, i + 14, danger);
+    put_location(out, i + GRANTED, granted);
+    put_location(out, i + DANGER, danger);
 }
 
-fn put_head(out: &mut [u8], i: usize, t: Train)
+fn put_head(out: &mut [u8; ROW], i: usize, t: Train)
     requires { ⌜ i + 12 < 2 ^ 64 ⌝ }
     ensures { λ _. ⌜ now (out .exit) ≡ pack (now (out .entry)) (8 * i) (bits headSizes) (headValues t) ⌝ }
 {
     numbers::put_word(out, i, t.loco.0);
-    numbers::put_word(out, i + 4, t.ticket.0);
-    numbers::put_byte(out, i + 8, t.start.0);
-    numbers::put_byte(out, i + 9, t.slots);
-    numbers::put_byte(out, i + 10, t.mode);
-    numbers::put_byte(out, i + 11, t.left);
+    numbers::put_word(out, i + TICKET, t.ticket.0);
+    numbers::put_byte(out, i + START, t.start.0);
+    numbers::put_byte(out, i + SLOTS, t.slots);
+    numbers::put_byte(out, i + MODE, t.mode);
+    numbers::put_byte(out, i + LEFT, t.left);
 }
 
-fn put_orders(out: &mut [u8], i: usize, held: [Order; 4])
+fn put_orders(out: &mut [u8; ROW], i: usize, held: [Order; 4])
     requires { ⌜ i + 36 < 2 ^ 64 ⌝ }
     ensures { λ _. ⌜ now (out .exit) ≡ pack (now (out .entry)) (8 * i) (bits ordersSizes) (ordersValues held) ⌝ }
 {
     put_order(out, i, held[0]);
-    put_order(out, i + 9, held[1]);
-    put_order(out, i + 18, held[2]);
-    put_order(out, i + 27, held[3]);
+    put_order(out, i + SECOND, held[1]);
+    put_order(out, i + THIRD, held[2]);
+    put_order(out, i + FOURTH, held[3]);
+}
+
+// The bytes of a record's row.
+fn bytes_of(t: Train) -> [u8; ROW]
+    ensures { λ r. ⌜ r ≡ putRow (replicate rowBytes 0) 0 t ⌝ }
+{
+    let track = t.track;
+    let orders = t.orders;
+    let mut row: [u8; ROW] = [0; ROW];
+    put_head(&mut row, 0, t);
+    put_track(&mut row, TRACK, track);
+    put_orders(&mut row, ORDERS, orders);
+    row
 }
 
 // The record put as the row that starts at a byte. Bytes past the end are dropped.
 pub fn put_row(out: &mut [u8], at: usize, t: Train)
     ensures { λ _. ⌜ now (out .exit) ≡ putRow (now (out .entry)) at t ⌝ }
 {
-    if at < out.len() {
-        let track = t.track;
-        let orders = t.orders;
-        put_head(out, at, t);
-        put_track(out, at + 12, track);
-        put_orders(out, at + 31, orders);
-    }
+    let row = bytes_of(t);
+    numbers::copy(&row, 0, ROW, out, at);
 }

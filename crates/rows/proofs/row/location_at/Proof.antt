@@ -12,9 +12,9 @@ use Rattle.rows.proofs.row.location_at.Tie as tie
 returns : tie.Need-returns
 unfolding unpack
 returns c =
-    let a = c .before .before .before .before .args in
+    let a = c .before .before .before .before .before .args in
     c .location-by .ensures
-    ∙ (λ k. locationBy (c .before .before .byte-at .ensures k) ((c .before .word-at .ensures ∙ at-bit 4 (a .s .now) (a .i + 1) (8 * a .i + 8) (omega arith)) k))
+    ∙ (λ k. locationBy (c .before .before .before .byte-at .ensures k) ((c .before .word-at .ensures ∙ at-bit 4 (a .s .now) (a .i + 1) (8 * a .i + 8) (omega arith)) k))
 
 pub location-at-spec : {M : Type 1} → statement M
 location-at-spec = tie.close (tie.spec (λ c κs. search needs) (λ c. search needs) (λ c κs. search needs) (λ c κs. search needs) returns)

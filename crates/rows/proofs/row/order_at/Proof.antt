@@ -12,11 +12,11 @@ use Rattle.rows.proofs.row.order_at.Tie as tie
 returns : tie.Need-returns
 unfolding unpack
 returns c =
-    let a = c .before .before .before .before .before .args in
-    let flag = c .before .before .byte-at .ensures ∙ at-bit 1 (a .s .now) (a .i + 4) (8 * a .i + 32) (omega arith) in
+    let a = c .before .before .before .before .before .before .before .args in
+    let flag = c .before .before .before .byte-at .ensures ∙ at-bit 1 (a .s .now) (a .i + 4) (8 * a .i + 32) (omega arith) in
     let limit = c .before .word-at2 .ensures ∙ at-bit 4 (a .s .now) (a .i + 5) (8 * a .i + 32 + 8) (omega arith) in
     λ k. record {
-      other = record { 0 = c .before .before .before .word-at .ensures k };
+      other = record { 0 = c .before .before .before .before .before .word-at .ensures k };
       limit = (c .limit-by .ensures ∙ (λ j. limitBy (flag j) (limit j))) k;
     }
 

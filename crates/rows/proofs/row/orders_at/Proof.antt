@@ -13,7 +13,7 @@ use Rattle.rows.proofs.row.orders_at.Tie as tie
 returns : tie.Need-returns
 unfolding unpack
 returns c =
-    let a = c .before .before .before .before .before .args in
+    let a = c .before .before .before .before .args in
     let at : ℕ → Order = λ p. orderOf (unpack (a .s .now) p (bits orderSizes)) in
     let b : ℕ = 8 * a .i in
     let e : 8 * (a .i + 9) ≡ b + 32 + 8 + 32 = omega arith in

@@ -11,10 +11,10 @@ use Rattle.rows.proofs.row.put_location.Tie as tie
 
 returns : tie.Need-returns
 returns c =
-    let a = c .before .before .before .before .before .before .before .before .before .before .before .args in
-    put-next 1 (a .i) (a .i + 1) (4 ∷ []) _ _ _ _ _ (c .before .before .before .before .before .before .before .put-byte .ensures ∙ ap (putNumber 1 (a .out .now) (a .i)) (c .before .before .before .before .before .before .before .before .location-flag .ensures)) (omega arith)
-    (put-next 4 (a .i + 1) (a .i + 1 + 4) ([]) _ _ _ _ _ (c .before .before .put-word .ensures ∙ ap (putNumber 4 (c .before .before .before .before .before .before .before .put-byte .last .0) (a .i + 1)) (c .before .before .before .location-number .ensures)) (omega arith)
+    let a = c .before .before .before .before .before .before .args in
+    put-next 1 (a .i) (a .i + 1) (4 ∷ []) _ _ _ _ _ (c .before .before .before .put-byte .ensures ∙ ap (putNumber 1 (a .out .now) (a .i)) (c .before .before .before .before .location-flag .ensures)) (omega arith)
+    (put-next 4 (a .i + 1) (a .i + 1 + 4) ([]) _ _ _ _ _ (c .put-word .ensures ∙ ap (putNumber 4 (c .before .before .before .put-byte .last .0) (a .i + 1)) (c .before .location-number .ensures)) (omega arith)
     (put-done _ _))
 
 pub put-location-spec : {M : Type 1} → statement M
-put-location-spec = tie.close (tie.spec (λ c κs. search needs) (λ c κs. search needs) (λ c. search needs) (λ c κs. search needs) (λ c κs. search needs) (λ c. search needs) returns)
+put-location-spec = tie.close (tie.spec (λ c κs. search needs) (λ c κs. search needs) (λ c. search needs) (λ c κs. search needs) (λ c κs. search needs) returns)

@@ -11,11 +11,11 @@ use Rattle.rows.proofs.row.put_position.Tie as tie
 
 returns : tie.Need-returns
 returns c =
-    let a = c .before .before .before .before .before .before .before .before .before .before .before .before .before .before .before .before .args in
-    put-next 1 (a .i) (a .i + 1) (4 ∷ 4 ∷ []) _ _ _ _ _ (c .before .before .before .before .before .before .before .before .before .before .before .before .put-byte .ensures ∙ ap (putNumber 1 (a .out .now) (a .i)) (c .before .before .before .before .before .before .before .before .before .before .before .before .before .position-flag .ensures)) (omega arith)
-    (put-next 4 (a .i + 1) (a .i + 5) (4 ∷ []) _ _ _ _ _ (c .before .before .before .before .before .before .before .put-word .ensures ∙ ap (putNumber 4 (c .before .before .before .before .before .before .before .before .before .before .before .before .put-byte .last .0) (a .i + 1)) (c .before .before .before .before .before .before .before .before .position-front .ensures)) (omega arith)
-    (put-next 4 (a .i + 5) (a .i + 5 + 4) ([]) _ _ _ _ _ (c .before .before .put-word2 .ensures ∙ ap (putNumber 4 (c .before .before .before .before .before .before .before .put-word .last .0) (a .i + 5)) (c .before .before .before .position-rear .ensures)) (omega arith)
+    let a = c .before .before .before .before .before .before .before .before .before .args in
+    put-next 1 (a .i) (a .i + 1) (4 ∷ 4 ∷ []) _ _ _ _ _ (c .before .before .before .before .before .before .put-byte .ensures ∙ ap (putNumber 1 (a .out .now) (a .i)) (c .before .before .before .before .before .before .before .position-flag .ensures)) (omega arith)
+    (put-next 4 (a .i + 1) (a .i + 5) (4 ∷ []) _ _ _ _ _ (c .before .before .before .put-word .ensures ∙ ap (putNumber 4 (c .before .before .before .before .before .before .put-byte .last .0) (a .i + 1)) (c .before .before .before .before .position-front .ensures)) (omega arith)
+    (put-next 4 (a .i + 5) (a .i + 5 + 4) ([]) _ _ _ _ _ (c .put-word2 .ensures ∙ ap (putNumber 4 (c .before .before .before .put-word .last .0) (a .i + 5)) (c .before .position-rear .ensures)) (omega arith)
     (put-done _ _)))
 
 pub put-position-spec : {M : Type 1} → statement M
-put-position-spec = tie.close (tie.spec (λ c κs. search needs) (λ c κs. search needs) (λ c. search needs) (λ c κs. search needs) (λ c κs. search needs) (λ c. search needs) (λ c κs. search needs) (λ c κs. search needs) (λ c. search needs) returns)
+put-position-spec = tie.close (tie.spec (λ c κs. search needs) (λ c κs. search needs) (λ c. search needs) (λ c κs. search needs) (λ c κs. search needs) (λ c. search needs) (λ c κs. search needs) (λ c κs. search needs) returns)
