@@ -11,13 +11,14 @@ ghost use Rattle.store.specs.Stands.{viewOf};
 pub(crate) fn find(s: &[u8], loco: Loco, ticket: Ticket) -> Named
     ensures { λ r. ⌜ r ≡ namedIn loco ticket (viewOf (now (s .entry))) ⌝ }
 {
-    match view::find(s, loco, ticket) {
-        Found::Nothing => Named::nobody(loco),
-        Found::Index(row) => Named {
-            loco,
-            live: true,
-            row,
-            train: view::train(s, row),
-        },
+    let Found::Index(row) = view::find(s, loco, ticket) else {
+        return Named::nobody(loco);
+    };
+    let train = view::train(s, row);
+    Named {
+        loco,
+        live: true,
+        row,
+        train,
     }
 }

@@ -1,20 +1,20 @@
 -- Laws of copies: what a copy puts and what it leaves, made a byte at a time.
-use Prim.Native.Nat.{ℕ, suc, _+_, _≤_, _<_}
-use mathlib.Core.List.{List, [], _∷_}
+use Prim.Native.Nat.{ℕ, _+_, _≤_, _<_}
+use mathlib.Core.List.{List}
 use mathlib.Core.Logic.{⊎-elim, inl, inr}
-use mathlib.Core.Path.{_≡_, refl, sym, ap, _∙_}
+use mathlib.Core.Path.{_≡_, ap, _∙_}
 use native.Mathlib.Omega.{arith}
-use lib.ListN.{length, getD, set, take, drop, length-drop}
-use lib.Seq.{sets, length-sets, take-suc, getD-drop}
+use lib.ListN.{length, getD, take, drop, replicate, length-take, length-replicate}
+use lib.Seq.{sets, length-sets, ext-getD, getD-take}
 use borrow.Author.Tests.{lt-ltb, le-ltb}
 use Rattle.numbers.proofs.FieldLaws.{Bytes, lt-or-le}
-use Rattle.numbers.proofs.PieceLaws.{sets-append}
+use Rattle.numbers.proofs.CopyLaws.{sets-out, sets-in}
 use Rattle.rows.specs.Row.{rowBytes, rowAt}
 use Rattle.rows.proofs.RowLaws.{row-same}
 use Rattle.trains.specs.Sought.{rowCount}
 use Rattle.store.proofs.Frames.{Changes, unchanged, widen}
-use Rattle.store.proofs.Stretches.{Outside, sets-out, sets-in, bytes-sets, bytes-stretch, length-stretch, stretch-at}
-use Rattle.ledger.specs.Copied.{copied, Apart, rowCopied}
+use Rattle.store.proofs.Stretches.{Outside, bytes-sets, bytes-stretch, length-stretch, stretch-at}
+use Rattle.ledger.specs.Copied.{copied, rowCopied}
 
 pub length-copied : (bs : List ℕ) (n from to : ℕ) → length (copied bs n from to) ≡ length bs
 unfolding copied
@@ -79,25 +79,15 @@ row-copied-changes s i from to lo n h f =
     (λ l. rw (row-passed s i from to l) (unchanged h))
     (lt-or-le i rowCount)
 
--- ---- byte after byte
+-- ---- a copy by way of other bytes
 
--- nothing copied
-pub copied-zero : (bs : List ℕ) (from to : ℕ) → copied bs 0 from to ≡ bs
-unfolding copied
-copied-zero bs from to = refl
-
--- one byte more, taken from the bytes as they are by then
-pub copied-suc : (bs : List ℕ) (n from to i : ℕ) → Apart n from to (length bs) → i < n
-    → set (copied bs i from to) (to + i) (getD (copied bs i from to) (from + i) 0) ≡ copied bs (suc i) from to
-unfolding copied
-copied-suc bs n from to i h l =
-    let v : List ℕ = take i (drop from bs) in
-    let lv : length v ≡ i = length-stretch bs i from (omega (arith, h .source)) in
-    let ld : i < length (drop from bs) = rw length-drop (omega (arith, h .source)) in
-    let stays : getD (sets bs to v) (from + i) 0 ≡ getD (drop from bs) i 0 =
-    sets-out bs to v (from + i) (⊎-elim (λ a. inl (omega arith)) (λ a. inr (omega arith)) (h .apart)) ∙ sym (getD-drop from bs i 0) in
-    rw stays
-    (sym
-    (ap (sets bs to) (take-suc (drop from bs) i 0 ld)
-    ∙ sets-append bs to v (getD (drop from bs) i 0 ∷ [])
-    ∙ ap (λ (n : ℕ). set (sets bs to v) (to + n) (getD (drop from bs) i 0)) lv))
+-- n bytes copied over as many others are what those are then
+pub copied-over : (n : ℕ) (v : List ℕ) → length v ≡ n → take n (drop 0 (sets (replicate n 0) 0 v)) ≡ v
+copied-over n v e =
+    let z : List ℕ = replicate n 0 in
+    let lz : length z ≡ n = length-replicate {A = ℕ} n 0 in
+    let ls : length (sets z 0 v) ≡ n = length-sets z 0 v ∙ lz in
+    ext-getD 0 (take n (sets z 0 v)) v (length-take n (sets z 0 v) ∙ omega arith)
+    (λ k l.
+    let m : k < n = omega (arith, length-take n (sets z 0 v)) in
+    getD-take n (sets z 0 v) k 0 m ∙ ap (λ (i : ℕ). getD (sets z 0 v) i 0) (omega arith) ∙ sets-in z 0 v k (omega arith) (omega arith))

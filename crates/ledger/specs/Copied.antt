@@ -1,7 +1,6 @@
 -- Bytes copied from one offset to another.
 use mathlib.Core.Bool.{cond}
 use mathlib.Core.List.{List}
-use mathlib.Core.Logic.{_⊎_}
 use Prim.Native.Nat.{ℕ, _+_, _≤_, _<_}
 use lib.Dec.{ltb}
 use lib.ListN.{take, drop}
@@ -13,15 +12,9 @@ use Rattle.trains.specs.Sought.{rowCount}
 unfoldable pub copied : List ℕ → ℕ → ℕ → ℕ → List ℕ
 copied bs n from to = sets bs to (take n (drop from bs))
 
--- both stretches of n bytes are within the bytes, and have none in common
-pub record Apart (n from to size : ℕ) : Type 0 where
-  pub source : from + n ≤ size
-  pub target : to + n ≤ size
-  pub apart : (from + n ≤ to) ⊎ (to + n ≤ from)
-
--- the same of the bytes of row i, where i is the number of one of the register's rows
-abbrev pub RowApart : ℕ → ℕ → ℕ → ℕ → Type 0
-RowApart i from to size = i < rowCount → Apart rowBytes from to size
+-- the bytes have all of row i at an offset, where i is the number of one of the register's rows
+abbrev pub RowThere : ℕ → ℕ → ℕ → Type 0
+RowThere i from size = i < rowCount → from + rowBytes ≤ size
 
 -- row i copied, where i is the number of one of the register's rows
 unfoldable pub rowCopied : List ℕ → ℕ → ℕ → ℕ → List ℕ

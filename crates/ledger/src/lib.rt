@@ -12,31 +12,19 @@ ghost use mathlib.Core.Path.{_≡_};
 ghost use Prim.Native.Nat.{_^_, _<_};
 ghost use lib.ListN.{length};
 ghost use Rattle.replay.specs.Demand3.{depth};
-ghost use Rattle.rows.specs.Row.{rowBytes};
-ghost use Rattle.trains.specs.Sought.{rowCount};
 ghost use Rattle.store.specs.Layout.{entryOffset};
-ghost use Rattle.ledger.specs.Copied.{copied, Apart, rowCopied, RowApart};
+ghost use Rattle.ledger.specs.Copied.{rowCopied, RowThere};
 ghost use Rattle.ledger.specs.Settled.{headed};
 
-// `n` bytes from an offset on, to another that has none of them.
-fn copy_bytes(s: &mut [u8], n: usize, from: usize, to: usize)
-    requires { ⌜ Apart n from to (length (now s)) ⌝ }
-    ensures { λ _. ⌜ now (s .exit) ≡ copied (now (s .entry)) n from to ⌝ }
-{
-    let mut i: usize = 0;
-    while i < n {
-        s[to + i] = s[from + i];
-        i += 1;
-    }
-}
-
-// Row i, where it is one of the register's, from an offset to another.
+// Row i, where it is one of the register's, from an offset to another, by way of other bytes.
 fn copy_row(s: &mut [u8], i: u32, from: usize, to: usize)
-    requires { ⌜ RowApart i from to (length (now s)) ⌝ }
+    requires { ⌜ RowThere i from (length (now s)) ⌝ }
     ensures { λ _. ⌜ now (s .exit) ≡ rowCopied (now (s .entry)) i from to ⌝ }
 {
     if (i as usize) < ROWS {
-        copy_bytes(s, row::ROW, from, to);
+        let mut kept: [u8; row::ROW] = [0; row::ROW];
+        numbers::copy(s, from, row::ROW, &mut kept, 0);
+        numbers::copy(&kept, 0, row::ROW, s, to);
     }
 }
 

@@ -111,7 +111,10 @@ fn order_at(s: &[u8; ROW], i: usize) -> Order
 {
     Order {
         other: Ticket(numbers::word_at(s, i)),
-        limit: limit_by(numbers::byte_at(s, i + LIMITED), numbers::word_at(s, i + LIMIT)),
+        limit: limit_by(
+            numbers::byte_at(s, i + LIMITED),
+            numbers::word_at(s, i + LIMIT),
+        ),
     }
 }
 

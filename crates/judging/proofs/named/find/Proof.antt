@@ -22,4 +22,4 @@ returns-2 c =
     ∙ ap (inRow (a .loco) (viewOf (a .s .now))) (sym (found .1) ∙ c .before .before .before .before .find .ensures)
 
 pub find-spec : {M : Type 1} → statement M
-find-spec = tie.close (tie.spec (λ c κs. search needs) (λ c. search needs) (λ c κs. search needs) (λ c. search needs) (λ c κs. search needs) returns returns-2)
+find-spec = tie.close (tie.spec (λ c κs. search needs) (λ c. search needs) (λ c. search needs) (λ c κs. search needs) returns (λ c κs. search needs) returns-2)

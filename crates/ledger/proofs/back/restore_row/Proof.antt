@@ -1,7 +1,6 @@
 -- `ledger::back::restore_row` meets its contract.
 use mathlib.Core.Path.{ap, _∙_}
 use Prim.Native.Nat.{_+_}
-use mathlib.Core.Logic.{inr}
 use native.Mathlib.Omega.{arith}
 use Rattle.store.specs.Layout.{rowOffset}
 use Rattle.ledger.specs.Back.{rowBack}
@@ -11,7 +10,7 @@ use Rattle.ledger.proofs.back.restore_row.Statement.{statement}
 use Rattle.ledger.proofs.back.restore_row.Tie as tie
 
 copy-row-requires : tie.Need-copy-row-requires
-copy-row-requires c κs = λ l. record { source = omega arith; target = omega arith; apart = inr (omega arith) }
+copy-row-requires c κs = λ l. omega arith
 
 returns : tie.Need-returns
 unfolding rowBack

@@ -1,7 +1,6 @@
 -- `ledger::settled::keep_row` meets its contract.
 use mathlib.Core.Path.{_∙_}
 use Prim.Native.Nat.{_+_}
-use mathlib.Core.Logic.{inl}
 use native.Mathlib.Omega.{arith}
 use Rattle.ledger.specs.Copied.{rowCopied}
 use Rattle.ledger.specs.Settled.{rowKept}
@@ -10,7 +9,7 @@ use Rattle.ledger.proofs.settled.keep_row.Statement.{statement}
 use Rattle.ledger.proofs.settled.keep_row.Tie as tie
 
 copy-row-requires : tie.Need-copy-row-requires
-copy-row-requires c κs = λ l. record { source = omega arith; target = omega arith; apart = inl (omega arith) }
+copy-row-requires c κs = λ l. omega arith
 
 returns : tie.Need-returns
 unfolding rowKept
