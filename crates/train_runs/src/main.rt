@@ -151,7 +151,7 @@ fn end_behind(rear: u32) {
     match shares::share_of_l2(2, l1, l2, MARGIN) {
         Share::Nothing => text(b" nothing"),
         Share::NoPosition => text(b" no-position"),
-        Share::Order(l) => place(l2.with_order(Ticket(1), l).end()),
+        Share::Order(l) => location(l2.with_order(Ticket(1), l).end()),
     }
     end_line();
 }
