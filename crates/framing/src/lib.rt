@@ -1,0 +1,58 @@
+// Framing: the refusal of the first sub-packet, and the sub-packet as a part of the lent bytes.
+pub mod refusals;
+
+ghost use mathlib.Core.Path.{_≡_};
+ghost use Prim.Native.Nat.{_<_};
+ghost use Rattle.framing.specs.Framing.{lengthOf, headRefusal, frameRefusal, frameOf};
+
+const LAST_TYPE: u32 = 7;
+
+// The length that the header says, in bytes of the whole sub-packet.
+pub fn length_of(s: &[u8]) -> usize
+    ensures { λ r. ⌜ (r ≡ lengthOf (now (s .entry))) × (r < 128) ⌝ }
+{
+    fields::read_field(s, 4, 7) as usize
+}
+
+// The refusal by the header, where the types from `low` to `high` are taken.
+pub fn head_refusal(s: &[u8], low: u32, high: u32) -> u32
+    ensures { λ r. ⌜ r ≡ headRefusal (now (s .entry)) low high ⌝ }
+{
+    if s.len() < 2 {
+        return refusals::TOO_SHORT;
+    }
+    let kind = fields::read_field(s, 0, 4);
+    if kind < low {
+        return refusals::WRONG_TYPE;
+    }
+    if high < kind {
+        return refusals::WRONG_TYPE;
+    }
+    let n = length_of(s);
+    if n < 2 {
+        return refusals::LENGTH_TOO_SMALL;
+    }
+    if s.len() < n {
+        return refusals::CUT_OFF;
+    }
+    refusals::NONE
+}
+
+// The refusal of the first sub-packet of `s`; 0 for none.
+pub fn frame_refusal(s: &[u8]) -> u32
+    ensures { λ r. ⌜ r ≡ frameRefusal (now (s .entry)) ⌝ }
+{
+    head_refusal(s, 0, LAST_TYPE)
+}
+
+// The first sub-packet of `s`, header included; nothing on a refusal.
+pub fn frame(s: &[u8]) -> &[u8]
+    ensures { λ r. ⌜ (now r ≡ frameOf (now (s .entry))) × (r .ptr ≡ s .entry .ptr) ⌝ }
+{
+    if frame_refusal(s) == refusals::NONE {
+        let n = length_of(s);
+        &s[..n]
+    } else {
+        &s[..0]
+    }
+}
