@@ -54,6 +54,6 @@ pub tail-same : (x y : ℕ) (xs : List ℕ) (j : ℕ) → (j ≡ 0 → ⊥) → 
 tail-same x y xs zero h = absurd (h refl)
 tail-same x y xs (suc j) h = refl
 
--- the gates' bits stay few, for any width and count that their types hold
-pub product-small : (distance n : ℕ) → distance ≤ 255 → n ≤ 4294967295 → gateBits distance * n ≤ 275 * 4294967295
-product-small distance n hf hn = mul-le-mul {n₁ = gateBits distance} {m₁ = n} {n₂ = 275} {m₂ = 4294967295} (omega arith) hn
+-- the gates' bits stay few
+pub product-small : (distance n : ℕ) → distance ≤ 255 → gateBits distance * n ≤ 275 * n
+product-small distance n h = mul-le-mul {n₁ = gateBits distance} {m₁ = n} {n₂ = 275} {m₂ = n} (omega arith) (omega arith)

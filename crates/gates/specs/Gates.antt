@@ -14,10 +14,6 @@ gateType = 3
 abbrev pub distanceWidth : ℕ
 distanceWidth = 15
 
--- the most gates that are written
-abbrev pub mostGates : ℕ
-mostGates = 28
-
 -- the bytes of a gate outside a sub-packet
 abbrev pub gateBytes : ℕ
 gateBytes = 9

@@ -2,7 +2,7 @@
 // distance.
 use framing::refusals;
 ghost use mathlib.Core.Path.{_≡_};
-ghost use Prim.Native.Nat.{_<_, _^_};
+ghost use Prim.Native.Nat.{_+_, _*_, _≤_};
 ghost use lib.ListN.{getD};
 ghost use Rattle.gates.specs.Gates.{gateWidths, gateBits, bitsOf, gateRules};
 
@@ -36,7 +36,11 @@ const WIDTHS: [u8; GATE_BYTES] = [0, 8, 2, 8, 3, 1, 3, 1, 2];
 pub fn piece_width(distance: u8, j: usize) -> usize
     ensures { λ r. ⌜ r ≡ getD (gateWidths distance) j 0 ⌝ }
 {
-    if j == 0 { distance as usize - numbers::at_most(distance as usize, 8) } else { numbers::byte_at(&WIDTHS, j) as usize }
+    if j == 0 {
+        distance as usize - numbers::at_most(distance as usize, 8)
+    } else {
+        numbers::byte_at(&WIDTHS, j) as usize
+    }
 }
 
 // The bits of a gate.
@@ -48,7 +52,7 @@ pub fn gate_bits(distance: u8) -> usize
 
 // The bits of a sub-packet of n gates before its padding.
 pub fn bits_of(distance: u8, n: u32) -> usize
-    ensures { λ r. ⌜ (r ≡ bitsOf distance n) × (r < 2 ^ 41) ⌝ }
+    ensures { λ r. ⌜ (r ≡ bitsOf distance n) × (r ≤ 16 + 275 * n) ⌝ }
 {
     16 + gate_bits(distance) * n as usize
 }

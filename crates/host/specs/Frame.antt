@@ -2,7 +2,7 @@
 use mathlib.Core.List.{List}
 use Prim.Native.Nat.{ℕ}
 use lib.ListN.{length}
-use Rattle.packets.specs.Framing.{frameRefusal, frameOf}
+use Rattle.framing.specs.Framing.{frameRefusal, frameOf}
 use Rattle.host.specs.declared.radio.FrameAnswer.{FrameAnswer}
 
 -- the payload is the first bytes of those that were lent, so its offset is 0; of a refusal its length is 0 too

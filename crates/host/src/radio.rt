@@ -1,15 +1,12 @@
 // What needs no session: a sub-packet's frame, gates read and written, the age of a frame, and the mode step.
 use clock::FrameAge;
+use gates::GatesAnswer;
 use modes::Step;
-use packets::framing;
-use packets::gates::GatesAnswer;
-use packets::gates::reading;
-use packets::gates::writing;
 ghost use mathlib.Core.Path.{_≡_};
 ghost use Rattle.clock.specs.Age.{frameAge};
 ghost use Rattle.modes.specs.Next.{nextStep};
-ghost use Rattle.packets.specs.Reading.{readAnswer, readInto};
-ghost use Rattle.packets.specs.Writing.{writeAnswer, writeInto};
+ghost use Rattle.gate_reading.specs.Reading.{readAnswer, readInto};
+ghost use Rattle.gate_writing.specs.Writing.{writeAnswer, writeInto};
 ghost use Rattle.host.specs.Frame.{frameAnswer};
 
 // The refusal of the first sub-packet, and where it lies in the lent bytes: from their start on, or nowhere.
@@ -36,7 +33,7 @@ pub extern "C" fn kb_read_gates(bytes: &[u8], gates: &mut [u8]) -> GatesAnswer
     ensures { λ r. ⌜ r ≡ readAnswer (now (bytes .entry)) (now (gates .entry)) ⌝ }
     ensures { λ _. ⌜ now (gates .exit) ≡ readInto (now (bytes .entry)) (now (gates .entry)) ⌝ }
 {
-    reading::read_gates(bytes, gates)
+    gate_reading::read_gates(bytes, gates)
 }
 
 #[no_mangle]
@@ -44,7 +41,7 @@ pub extern "C" fn kb_write_gates(gates: &[u8], bytes: &mut [u8]) -> GatesAnswer
     ensures { λ r. ⌜ r ≡ writeAnswer (now (gates .entry)) (now (bytes .entry)) ⌝ }
     ensures { λ _. ⌜ now (bytes .exit) ≡ writeInto (now (gates .entry)) (now (bytes .entry)) ⌝ }
 {
-    writing::write_gates(gates, bytes)
+    gate_writing::write_gates(gates, bytes)
 }
 
 #[no_mangle]

@@ -2,12 +2,9 @@
 // A case: a kind (1 framing, 2 gates read, 3 gates written), the output's room and the input's length (2 bytes each), and the input.
 // A line: kind, answer, gates, bytes, and the whole output afterwards, which held AA before. Framing prints the sub-packet's length and the
 // sub-packet.
+use gates::GatesAnswer;
 use libc::STDIN_FILENO;
 use libc::STDOUT_FILENO;
-use packets::framing;
-use packets::gates::GatesAnswer;
-use packets::gates::reading;
-use packets::gates::writing;
 ghost use mathlib.Core.Path.{_≡_};
 ghost use Prim.Native.Nat.{_<_, _≤_};
 ghost use lib.ListN.{length};
@@ -55,14 +52,14 @@ fn run_frame(s: &[u8]) {
 }
 
 fn run_read(s: &[u8], out: &mut [u8]) {
-    let a = reading::read_gates(s, out);
+    let a = gate_reading::read_gates(s, out);
     print_answer(2, a);
     print_bytes(out);
     end_line();
 }
 
 fn run_write(s: &[u8], out: &mut [u8]) {
-    let a = writing::write_gates(s, out);
+    let a = gate_writing::write_gates(s, out);
     print_answer(3, a);
     print_bytes(out);
     end_line();

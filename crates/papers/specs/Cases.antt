@@ -3,9 +3,9 @@
 use mathlib.Core.List.{List, [], _∷_, _++_, foldl}
 use Prim.Native.Nat.{ℕ, _-_}
 use lib.ListN.{replicate, set}
-use Rattle.packets.specs.Gates.{gateBytes}
-use Rattle.packets.specs.Reading.{readAnswer, readInto}
-use Rattle.packets.specs.declared.gates.GatesAnswer.{GatesAnswer}
+use Rattle.gates.specs.Gates.{gateBytes}
+use Rattle.gate_reading.specs.Reading.{readAnswer, readInto}
+use Rattle.gates.specs.declared.GatesAnswer.{GatesAnswer}
 use Rattle.modes.specs.Flags.{flagCount}
 use Rattle.modes.specs.Next.{nextStep}
 use Rattle.modes.specs.declared.Step.{Step}

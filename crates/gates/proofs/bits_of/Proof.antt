@@ -11,8 +11,8 @@ use Rattle.gates.proofs.bits_of.Tie as tie
 same : (c : tie.After-gate-bits) → c .gate-bits .result * c .before .args .n ≡ gateBits (c .before .args .distance) * c .before .args .n
 same c = ap (λ b. b * c .before .args .n) (c .gate-bits .ensures)
 
-few : (c : tie.After-gate-bits) → gateBits (c .before .args .distance) * c .before .args .n ≤ 275 * 4294967295
-few c = product-small (c .before .args .distance) (c .before .args .n) (omega arith) (omega arith)
+few : (c : tie.After-gate-bits) → gateBits (c .before .args .distance) * c .before .args .n ≤ 275 * c .before .args .n
+few c = product-small (c .before .args .distance) (c .before .args .n) (omega arith)
 
 pub bits-of-spec : {M : Type 1} → statement M
 bits-of-spec =

@@ -1,7 +1,0 @@
-pub mod RefusalLaws
-pub mod FramingLaws
-pub mod GateLaws
-pub mod ReadingLaws
-pub mod WritingLaws
-pub mod RoundTrip
-pub mod BehindLaws
