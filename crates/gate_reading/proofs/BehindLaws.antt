@@ -1,11 +1,10 @@
 -- WHAT FOLLOWS THE FIRST SUB-PACKET CHANGES NOTHING in a gate read, where it is accepted and where it is refused: bytes behind it may be there or
 -- not, and be any.
-use mathlib.Core.Path.{_≡_, refl, sym, ap, ap₂, _∙_}
+use mathlib.Core.Path.{_≡_, sym, ap, _∙_}
 use mathlib.Core.Bool.{not}
 use mathlib.Core.List.{List, _++_}
-use Prim.Native.Nat.{ℕ, zero, suc, _+_, _*_, _≤_, _<_}
+use Prim.Native.Nat.{ℕ, _+_, _*_, _≤_}
 use native.Mathlib.Decide.{ℕ-discrete}
-use native.Mathlib.Nat.{mul-suc}
 use native.Mathlib.Omega.{arith}
 use lib.Dec.{ltb, eqb}
 use lib.ListN.{length, take, drop}
@@ -17,21 +16,10 @@ use Rattle.framing.specs.Refusals.{lengthNotForCount, paddingSet, noRoom, refus
 use Rattle.framing.specs.Framing.{lengthOf}
 use Rattle.framing.proofs.RefusalLaws.{differ, unless-some}
 use Rattle.framing.proofs.BehindLaws.{length-front, head-front, unread, inside, there}
-use Rattle.gates.specs.Gates.{gateType, distanceWidth, gateBytes, gateWidths, gateBits, bitsOf, sizeOf, paddingBits, gateRefusal, refusedWith, acceptedWith}
-use Rattle.gates.proofs.GateLaws.{total-gate, bits-gates}
-use Rattle.gate_reading.specs.Reading.{countOf, gatesOf, fieldsRefusal, paddingOf, bodyRefusal, readRefusal, readAnswer, readInto}
+use Rattle.gates.specs.Gates.{gateType, distanceWidth, gateBytes, gateWidths, bitsOf, sizeOf, paddingBits, rulesRefusal, refusedWith, acceptedWith}
+use Rattle.gates.proofs.GateLaws.{bits-gates}
+use Rattle.gate_reading.specs.Reading.{countOf, gatesOf, paddingOf, bodyRefusal, readRefusal, readAnswer, readInto}
 use Rattle.gate_reading.proofs.ReadingLaws.{gated}
-
--- gates that lie in the first n bytes get the refusal that they get of these bytes
-fields-front : (distance : ℕ) (s : List ℕ) (p m n : ℕ) → 8 ≤ distance → p + gateBits distance * m ≤ 8 * n
-    → fieldsRefusal distance (take n s) p m ≡ fieldsRefusal distance s p m
-unfolding fieldsRefusal
-fields-front distance s p zero n h f = refl
-fields-front distance s p (suc m) n h f =
-    let g : p + gateBits distance + gateBits distance * m ≤ 8 * n = omega (arith, mul-suc (gateBits distance) m) in
-    ap₂ orElse
-    (ap gateRefusal (unpack-front s p (gateWidths distance) n (rw (total-gate distance h) (omega arith))))
-    (fields-front distance s (p + gateBits distance) m n h g)
 
 -- the first n bytes, among them the whole first sub-packet
 module _ (s : List ℕ) (n : ℕ) (two : 2 ≤ n) (whole : lengthOf s ≤ n) (enough : n ≤ length s) where
@@ -50,9 +38,6 @@ module _ (s : List ℕ) (n : ℕ) (two : 2 ≤ n) (whole : lengthOf s ≤ n) (en
           ap (λ (m : ℕ). unpack (take n s) 16 (times m (gateWidths distance))) count-front
           ∙ unpack-front s 16 (times (countOf s) (gateWidths distance)) n (rw (bits-gates distance (countOf s) wide) (omega arith))
 
-      gate-rules-front : fieldsRefusal distance (take n s) 16 (countOf (take n s)) ≡ fieldsRefusal distance s 16 (countOf s)
-      gate-rules-front = ap (fieldsRefusal distance (take n s) 16) count-front ∙ fields-front distance s 16 (countOf s) n wide (omega arith)
-
       padding-front : paddingOf distance (take n s) ≡ paddingOf distance s
       padding-front =
           ap (λ (m : ℕ). field (take n s) (bitsOf distance m) (paddingBits distance m)) count-front
@@ -65,7 +50,7 @@ module _ (s : List ℕ) (n : ℕ) (two : 2 ≤ n) (whole : lengthOf s ≤ n) (en
         of : Dec (lengthOf s ≡ sizeOf distance (countOf s)) → bodyRefusal distance (take n s) ≡ bodyRefusal distance s
         of (yes right) =
             λ i. orElse (refuse (not (eqb (length-same i) (sizeOf distance (count-front i)))) lengthNotForCount)
-            (orElse (gate-rules-front right i) (refuse (ltb 0 (padding-front right i)) paddingSet))
+            (orElse (rulesRefusal (gates-front right i) (count-front i)) (refuse (ltb 0 (padding-front right i)) paddingSet))
         of (no wrong) =
             sym (differ (lengthOf (take n s)) (sizeOf distance (countOf (take n s))) _ _ (λ e. wrong (sym length-same ∙ e ∙ ap (sizeOf distance) count-front)))
             ∙ differ (lengthOf s) (sizeOf distance (countOf s)) _ _ wrong

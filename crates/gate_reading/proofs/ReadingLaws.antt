@@ -6,19 +6,19 @@ use native.Mathlib.Nat.{zero-add}
 use native.Mathlib.Omega.{arith}
 use borrow.Author.Tests.{ltb-false, eqb-true, not-false}
 use lib.ListN.{length, getD, drop}
-use lib.Seq.{sets, sets-eq}
+use lib.Seq.{sets, sets-eq, drop-at}
 use Rattle.numbers.specs.Fields.{field}
 use Rattle.numbers.specs.Pieces.{times, unpack}
 use Rattle.framing.specs.Refusals.{lengthNotForCount, paddingSet, noRoom, refuse, orElse}
 use Rattle.framing.specs.Framing.{lengthOf, headRefusal}
-use Rattle.gates.specs.Gates.{gateType, distanceWidth, gateBytes, gateWidths, gateBits, sizeOf, gateRules, gateRefusal, refusedWith, acceptedWith}
-use Rattle.gate_reading.specs.Reading.{countOf, gatesOf, fieldsRefusal, paddingOf, bodyRefusal, readRefusal, readAnswer, readInto}
+use Rattle.gates.specs.Gates.{gateType, distanceWidth, gateBytes, gateWidths, gateBits, sizeOf, gateRules, gateRefusal, rulesRefusal, refusedWith, acceptedWith}
+use Rattle.gate_reading.specs.Reading.{countOf, gatesOf, paddingOf, bodyRefusal, readRefusal, readAnswer, readInto}
 use Rattle.gates.specs.declared.GatesAnswer.{GatesAnswer}
 use Rattle.numbers.proofs.FieldLaws.{field-add, field-lt}
-use Rattle.numbers.proofs.PieceLaws.{length-unpack, length-times}
+use Rattle.numbers.proofs.PieceLaws.{length-unpack, unpack-append, times-suc}
 use Rattle.framing.proofs.RefusalLaws.{orElse-first, orElse-then, orElse-go, ends, refuse-none, unless-none, unless-some}
 use Rattle.framing.proofs.FramingLaws.{Headed, headed}
-use Rattle.gates.proofs.GateLaws.{length-gate}
+use Rattle.gates.proofs.GateLaws.{total-gate, length-gate, length-pieces}
 
 -- the rules on a gate's bytes in terms of its whole fields
 pub gate-rules-at : (distance : ℕ) (s : List ℕ) (p : ℕ) → 8 ≤ distance
@@ -53,24 +53,39 @@ module _ (distance : ℕ) (s : List ℕ) (p : ℕ) (h : 8 ≤ distance) where
 
 -- ---- the walk over the gates, a turn at a time
 
-pub fields-none : (distance : ℕ) (s : List ℕ) (p : ℕ) → fieldsRefusal distance s p 0 ≡ 0
-unfolding fieldsRefusal
-fields-none distance s p = refl
+-- the rules look at the first gate alone, whatever follows
+rules-first : (distance : ℕ) (s : List ℕ) (p : ℕ) (more : List ℕ)
+    → gateRefusal (unpack s p (gateWidths distance) ++ more) ≡ gateRefusal (unpack s p (gateWidths distance))
+unfolding gateRefusal unpack gateWidths
+rules-first distance s p more = refl
 
-fields-more : (distance : ℕ) (s : List ℕ) (p m : ℕ) → 0 < m
-    → orElse (gateRefusal (unpack s p (gateWidths distance))) (fieldsRefusal distance s (p + gateBits distance) (m - 1)) ≡ fieldsRefusal distance s p m
-unfolding fieldsRefusal
-fields-more distance s p m h =
-    let e : suc (m - 1) ≡ m = omega arith in
-    ap (fieldsRefusal distance s p) e
+module _ (distance : ℕ) (s : List ℕ) (p m : ℕ) (wide : 8 ≤ distance) (h : 0 < m) where
+  abbrev ws : List ℕ
+  ws = gateWidths distance
 
--- it stops at a gate that is refused, and goes on past one that is not
-pub fields-stop : (distance : ℕ) (s : List ℕ) (p m a : ℕ) → 0 < m → a ≡ gateRefusal (unpack s p (gateWidths distance)) → (a ≡ 0 → ⊥) → a ≡ fieldsRefusal distance s p m
-fields-stop distance s p m a h e ne = ends _ _ e ne ∙ fields-more distance s p m h
+  abbrev behind : List ℕ
+  behind = unpack s (p + gateBits distance) (times (m - 1) ws)
 
-pub fields-go : (distance : ℕ) (s : List ℕ) (p m a : ℕ) → 0 < m → a ≡ gateRefusal (unpack s p (gateWidths distance)) → a ≡ 0
-    → fieldsRefusal distance s (p + gateBits distance) (m - 1) ≡ fieldsRefusal distance s p m
-fields-go distance s p m a h e z = sym (orElse-go _ _ (sym e ∙ z)) ∙ fields-more distance s p m h
+  rules-more : orElse (gateRefusal (unpack s p ws)) (rulesRefusal behind (m - 1)) ≡ rulesRefusal (unpack s p (times m ws)) m
+  unfolding rulesRefusal
+  rules-more =
+      let n : suc (m - 1) ≡ m = omega arith in
+      let parts : unpack s p (times (suc (m - 1)) ws) ≡ unpack s p ws ++ behind =
+      ap (unpack s p) (times-suc (m - 1) ws) ∙ unpack-append s p ws (times (m - 1) ws)
+      ∙ ap (λ (t : ℕ). unpack s p ws ++ unpack s (p + t) (times (m - 1) ws)) (total-gate distance wide) in
+      let gate : gateRefusal (unpack s p ws) ≡ gateRefusal (unpack s p ws ++ behind) = sym (rules-first distance s p behind) in
+      let rest : behind ≡ drop gateBytes (unpack s p ws ++ behind) =
+      sym (drop-at (unpack s p ws) behind gateBytes (length-unpack s p ws ∙ length-gate distance)) in
+      (λ i. orElse (gate i) (rulesRefusal (rest i) (m - 1)))
+      ∙ ap (λ (l : List ℕ). rulesRefusal l (suc (m - 1))) (sym parts)
+      ∙ ap (λ (k : ℕ). rulesRefusal (unpack s p (times k ws)) k) n
+
+  -- it stops at a gate that is refused, and goes on past one that is not
+  pub rules-stop : (a : ℕ) → a ≡ gateRefusal (unpack s p ws) → (a ≡ 0 → ⊥) → a ≡ rulesRefusal (unpack s p (times m ws)) m
+  rules-stop a e ne = ends _ _ e ne ∙ rules-more
+
+  pub rules-go : (a : ℕ) → a ≡ gateRefusal (unpack s p ws) → a ≡ 0 → rulesRefusal behind (m - 1) ≡ rulesRefusal (unpack s p (times m ws)) m
+  rules-go a e z = sym (orElse-go _ _ (sym e ∙ z)) ∙ rules-more
 
 -- ---- the answer and the output
 
@@ -78,7 +93,7 @@ fields-go distance s p m a h e z = sym (orElse-go _ _ (sym e ∙ z)) ∙ fields-
 pub record Gated (distance : ℕ) (s : List ℕ) (room : ℕ) : Type 0 where
   pub head : Headed s gateType gateType
   pub length-right : lengthOf s ≡ sizeOf distance (countOf s)
-  pub fields : fieldsRefusal distance s 16 (countOf s) ≡ 0
+  pub rules : rulesRefusal (gatesOf distance s) (countOf s) ≡ 0
   pub padding : paddingOf distance s ≡ 0
   pub fits : gateBytes * countOf s ≤ room
 
@@ -92,7 +107,7 @@ gated distance s room e =
     record {
       head = headed s gateType gateType (orElse-first _ _ e);
       length-right = eqb-true _ _ (not-false _ (refuse-none _ _ (orElse-first _ _ body)));
-      fields = orElse-first _ _ e₂;
+      rules = orElse-first _ _ e₂;
       padding = omega arith;
       fits = ltb-false _ _ (refuse-none _ _ (orElse-then _ _ e₁));
     }
@@ -100,7 +115,7 @@ gated distance s room e =
 pub length-gates : (distance : ℕ) (s : List ℕ) → length (gatesOf distance s) ≡ gateBytes * countOf s
 unfolding gatesOf
 length-gates distance s =
-    length-unpack s 16 (times (countOf s) (gateWidths distance)) ∙ length-times (countOf s) (gateWidths distance) gateBytes (length-gate distance)
+    length-unpack s 16 (times (countOf s) (gateWidths distance)) ∙ length-pieces distance (countOf s)
 
 -- the two ways that a gate read ends
 module _ (s o : List ℕ) where

@@ -1,5 +1,5 @@
 -- A gate sub-packet read: the first sub-packet of s, into a buffer that held o.
-use Prim.Native.Nat.{ℕ, zero, suc, _+_, _*_}
+use Prim.Native.Nat.{ℕ, _*_}
 use mathlib.Core.List.{List, _++_}
 use mathlib.Core.Bool.{not}
 use lib.ListN.{length, drop}
@@ -8,7 +8,7 @@ use Rattle.numbers.specs.Fields.{field}
 use Rattle.numbers.specs.Pieces.{times, unpack}
 use Rattle.framing.specs.Refusals.{lengthNotForCount, paddingSet, noRoom, refuse, orElse, unlessRefused}
 use Rattle.framing.specs.Framing.{lengthOf, headRefusal}
-use Rattle.gates.specs.Gates.{gateType, distanceWidth, gateBytes, gateWidths, gateBits, bitsOf, sizeOf, paddingBits, gateRefusal, refusedWith, acceptedWith}
+use Rattle.gates.specs.Gates.{gateType, distanceWidth, gateBytes, gateWidths, bitsOf, sizeOf, paddingBits, rulesRefusal, refusedWith, acceptedWith}
 use Rattle.gates.specs.declared.GatesAnswer.{GatesAnswer}
 
 -- the count of gates, the 5 bits behind type and length
@@ -19,12 +19,6 @@ countOf s = field s 11 5
 unfoldable pub gatesOf : ℕ → List ℕ → List ℕ
 gatesOf distance s = unpack s 16 (times (countOf s) (gateWidths distance))
 
--- the rules on each of n gates from bit p on
-unfoldable pub fieldsRefusal : ℕ → List ℕ → ℕ → ℕ → ℕ
-fieldsRefusal distance s p zero = 0
-fieldsRefusal distance s p (suc n) =
-    orElse (gateRefusal (unpack s p (gateWidths distance))) (fieldsRefusal distance s (p + gateBits distance) n)
-
 -- the bits behind the gates
 abbrev pub paddingOf : ℕ → List ℕ → ℕ
 paddingOf distance s = field s (bitsOf distance (countOf s)) (paddingBits distance (countOf s))
@@ -33,7 +27,7 @@ paddingOf distance s = field s (bitsOf distance (countOf s)) (paddingBits distan
 unfoldable pub bodyRefusal : ℕ → List ℕ → ℕ
 bodyRefusal distance s =
     orElse (refuse (not (eqb (lengthOf s) (sizeOf distance (countOf s)))) lengthNotForCount)
-    (orElse (fieldsRefusal distance s 16 (countOf s)) (refuse (ltb 0 (paddingOf distance s)) paddingSet))
+    (orElse (rulesRefusal (gatesOf distance s) (countOf s)) (refuse (ltb 0 (paddingOf distance s)) paddingSet))
 
 -- the rules of a gate read in their order, into room bytes
 unfoldable pub readRefusal : ℕ → List ℕ → ℕ → ℕ

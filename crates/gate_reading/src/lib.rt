@@ -3,12 +3,12 @@
 use framing::refusals;
 use gates::GatesAnswer;
 ghost use mathlib.Core.Path.{_≡_};
-ghost use Prim.Native.Nat.{_+_, _*_, _≤_};
+ghost use Prim.Native.Nat.{_*_, _≤_};
 ghost use lib.ListN.{length};
 ghost use lib.Seq.{sets};
 ghost use Rattle.numbers.specs.Pieces.{times, unpack};
-ghost use Rattle.gates.specs.Gates.{gateBytes, gateWidths, gateRefusal};
-ghost use Rattle.gate_reading.specs.Reading.{countOf, fieldsRefusal, bodyRefusal, readRefusal, readAnswer, readInto};
+ghost use Rattle.gates.specs.Gates.{gateBytes, gateWidths, gateRefusal, rulesRefusal};
+ghost use Rattle.gate_reading.specs.Reading.{countOf, bodyRefusal, readRefusal, readAnswer, readInto};
 
 // The count of gates that the sub-packet says.
 fn count_of(s: &[u8]) -> usize
@@ -31,9 +31,9 @@ fn gate_refusal(s: &[u8], p: usize, distance: u8) -> u32
 }
 
 // The first refusal of n gates from bit 16 on.
-fn fields_refusal(s: &[u8], distance: u8, n: usize) -> u32
+fn rules_refusal(s: &[u8], distance: u8, n: usize) -> u32
     requires { ⌜ (8 ≤ distance) × (distance ≤ 15) × (n ≤ 31) ⌝ }
-    ensures { λ r. ⌜ r ≡ fieldsRefusal distance (now (s .entry)) 16 n ⌝ }
+    ensures { λ r. ⌜ r ≡ rulesRefusal (unpack (now (s .entry)) 16 (times n (gateWidths distance))) n ⌝ }
 {
     let mut p = 16;
     let mut i = 0;
@@ -59,9 +59,9 @@ fn body_refusal(s: &[u8], distance: u8) -> u32
     if framing::length_of(s) != size {
         return refusals::LENGTH_NOT_FOR_COUNT;
     }
-    let fields = fields_refusal(s, distance, n);
-    if fields != refusals::NONE {
-        return fields;
+    let rules = rules_refusal(s, distance, n);
+    if rules != refusals::NONE {
+        return rules;
     }
     if 0 < fields::read_field(s, bits, 8 * size - bits) {
         return refusals::PADDING_SET;
@@ -88,34 +88,18 @@ fn read_refusal(s: &[u8], room: usize, distance: u8) -> u32
     refusals::NONE
 }
 
-// Stores the bytes of the gate at bit p from index `at` on.
-fn fill_gate(s: &[u8], p: usize, distance: u8, out: &mut [u8], at: usize)
-    requires { ⌜ (p ≤ 2000) × (distance ≤ 15) × (at + gateBytes ≤ length (now out)) ⌝ }
-    ensures { λ _. ⌜ now (out .exit) ≡ sets (now (out .entry)) at (unpack (now (s .entry)) p (gateWidths distance)) ⌝ }
-{
-    let mut q = p;
-    let mut j = 0;
-    while j < gates::GATE_BYTES {
-        let w = gates::piece_width(distance, j);
-        out[at + j] = fields::read_field(s, q, w) as u8;
-        q += w;
-        j += 1;
-    }
-}
-
-// Stores the bytes of n gates from bit 16 on.
+// Stores the bytes of n gates from bit 16 on, a piece at a time.
 fn fill_gates(s: &[u8], distance: u8, n: usize, out: &mut [u8])
-    requires { ⌜ (8 ≤ distance) × (distance ≤ 15) × (n ≤ 31) × (gateBytes * n ≤ length (now out)) ⌝ }
+    requires { ⌜ (distance ≤ 15) × (n ≤ 31) × (gateBytes * n ≤ length (now out)) ⌝ }
     ensures { λ _. ⌜ now (out .exit) ≡ sets (now (out .entry)) 0 (unpack (now (s .entry)) 16 (times n (gateWidths distance))) ⌝ }
 {
     let mut p = 16;
-    let mut at = 0;
-    let mut i = 0;
-    while i < n {
-        fill_gate(s, p, distance, out, at);
-        p += gates::gate_bits(distance);
-        at += gates::GATE_BYTES;
-        i += 1;
+    let mut k = 0;
+    while k < gates::GATE_BYTES * n {
+        let w = gates::piece_width(distance, k);
+        out[k] = fields::read_field(s, p, w) as u8;
+        p += w;
+        k += 1;
     }
 }
 

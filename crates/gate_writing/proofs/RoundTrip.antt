@@ -6,20 +6,20 @@ use Prim.Native.Nat.{ℕ, zero, suc, _+_, _-_, _*_, _/_, _%_, _^_, _≤_, _<_}
 use native.Mathlib.Nat.{le-trans, mul-le-mul-left}
 use native.Mathlib.Omega.{arith}
 use borrow.Author.Tests.{lt-leb, leb-false}
-use lib.ListN.{length, getD, take, drop, length-append, length-drop, take-append-drop}
+use lib.ListN.{length, getD, take, drop, length-append}
 use lib.Pow.{pow-pos}
-use lib.Seq.{drop-at, take-at, length-take-le}
+use lib.Seq.{take-at, take-all}
 use Rattle.numbers.specs.Fields.{field}
 use Rattle.numbers.specs.Pieces.{total, times, unpack, pack}
 use Rattle.framing.specs.Refusals.{refuse, orElse}
 use Rattle.framing.specs.Framing.{typeOf, lengthOf, headRefusal}
-use Rattle.gates.specs.Gates.{gateType, distanceWidth, gateBytes, gateWidths, gateBits, bitsOf, sizeOf, paddingBits, gateRefusal, acceptedWith}
-use Rattle.gate_reading.specs.Reading.{countOf, gatesOf, fieldsRefusal, paddingOf, bodyRefusal, readRefusal, readAnswer, readInto}
-use Rattle.gate_writing.specs.Writing.{mostGates, gatesIn, packetWidths, packetValues, written, widthsRefusal, oneRefusal, listRefusal, writeRefusal, writeAnswer, writeInto}
+use Rattle.gates.specs.Gates.{gateType, distanceWidth, gateBytes, gateWidths, gateBits, bitsOf, sizeOf, paddingBits, rulesRefusal, acceptedWith}
+use Rattle.gate_reading.specs.Reading.{countOf, gatesOf, paddingOf, bodyRefusal, readRefusal, readAnswer, readInto}
+use Rattle.gate_writing.specs.Writing.{mostGates, gatesIn, packetWidths, packetValues, written, widthsRefusal, listRefusal, writeRefusal, writeAnswer, writeInto}
 use Rattle.numbers.proofs.FieldLaws.{Bytes, field-lt}
-use Rattle.numbers.proofs.PieceLaws.{Fit, none, one, unpack-append, unpack-pack, length-unpack, length-times, length-pack, times-suc, round-trip, pack-past}
+use Rattle.numbers.proofs.PieceLaws.{Fit, none, one, unpack-append, unpack-pack, length-unpack, length-pack, round-trip, pack-past}
 use Rattle.framing.proofs.RefusalLaws.{orElse-first, orElse-then, orElse-go, next, same, not-below, last-not-below, refuse-none, unless-none}
-use Rattle.gates.proofs.GateLaws.{length-gate, total-gate, bits-gates}
+use Rattle.gates.proofs.GateLaws.{length-pieces, bits-gates}
 use Rattle.gate_reading.proofs.ReadingLaws.{Gated, gated, length-gates}
 use Rattle.gate_writing.proofs.WritingLaws.{Listed, listed, total-packet}
 
@@ -59,40 +59,15 @@ pub written-past : (distance : ℕ) (list o : List ℕ) → 8 ≤ distance → B
 unfolding written
 written-past distance list o h ho = pack-past o (sizeOf distance (gatesIn list)) _ _ ho (total-packet distance (gatesIn list) h)
 
-widths-read : (s : List ℕ) (p : ℕ) (ws more : List ℕ) → widthsRefusal ws (unpack s p ws ++ more) ≡ 0
+widths-read : (s : List ℕ) (p : ℕ) (ws : List ℕ) → widthsRefusal ws (unpack s p ws) ≡ 0
 unfolding widthsRefusal unpack orElse refuse
-widths-read s p [] more = refl
-widths-read s p (w ∷ ws) more = simp (lt-leb (2 ^ w) (field s p w) (field-lt s p w)) (widths-read s (p + w) ws more)
-
-rules-read : (distance : ℕ) (s : List ℕ) (p : ℕ) (more : List ℕ)
-    → gateRefusal (unpack s p (gateWidths distance) ++ more) ≡ gateRefusal (unpack s p (gateWidths distance))
-unfolding gateRefusal unpack gateWidths
-rules-read distance s p more = refl
-
-first-read : (distance : ℕ) (s : List ℕ) (p : ℕ) (more : List ℕ)
-    → oneRefusal distance (unpack s p (gateWidths distance) ++ more) ≡ gateRefusal (unpack s p (gateWidths distance))
-unfolding oneRefusal
-first-read distance s p more = orElse-go _ _ (widths-read s p (gateWidths distance) more) ∙ rules-read distance s p more
-
-list-read : (distance : ℕ) (s : List ℕ) (p n : ℕ) → 8 ≤ distance
-    → listRefusal distance (unpack s p (times n (gateWidths distance))) n ≡ fieldsRefusal distance s p n
-unfolding listRefusal fieldsRefusal
-list-read distance s p zero h = refl
-list-read distance s p (suc n) h =
-    let ws : List ℕ = gateWidths distance in
-    let more : List ℕ = unpack s (p + gateBits distance) (times n ws) in
-    let e : unpack s p (times (suc n) ws) ≡ unpack s p ws ++ more =
-    ap (unpack s p) (times-suc n ws) ∙ unpack-append s p ws (times n ws)
-    ∙ ap (λ (t : ℕ). unpack s p ws ++ unpack s (p + t) (times n ws)) (total-gate distance h) in
-    rw e
-    (ap₂ orElse (first-read distance s p more)
-    (ap (λ (l : List ℕ). listRefusal distance l n) (drop-at (unpack s p ws) more gateBytes (length-unpack s p ws ∙ length-gate distance))
-    ∙ list-read distance s (p + gateBits distance) n h))
+widths-read s p [] = refl
+widths-read s p (w ∷ ws) = simp (lt-leb (2 ^ w) (field s p w) (field-lt s p w)) (widths-read s (p + w) ws)
 
 -- the gates that a sub-packet has get the same refusal outside as inside
-gates-read : (distance : ℕ) (s : List ℕ) → 8 ≤ distance → listRefusal distance (gatesOf distance s) (countOf s) ≡ fieldsRefusal distance s 16 (countOf s)
-unfolding gatesOf
-gates-read distance s h = list-read distance s 16 (countOf s) h
+gates-read : (distance : ℕ) (s : List ℕ) → listRefusal distance (gatesOf distance s) (countOf s) ≡ rulesRefusal (gatesOf distance s) (countOf s)
+unfolding listRefusal gatesOf
+gates-read distance s = orElse-go _ _ (widths-read s 16 (times (countOf s) (gateWidths distance)))
 
 -- ---- what the header can say
 
@@ -125,7 +100,7 @@ write-accepts d most ok all s room more e fits =
     let g = gated d s room e in
     let list : List ℕ = gatesOf d s in
     let en : gatesIn list ≡ countOf s = count-gates d s in
-    let right : listRefusal d list (gatesIn list) ≡ 0 = ap (listRefusal d list) en ∙ gates-read d s (ok .wide) ∙ g .fields in
+    let right : listRefusal d list (gatesIn list) ≡ 0 = ap (listRefusal d list) en ∙ gates-read d s ∙ g .rules in
     let size : sizeOf d (gatesIn list) ≡ lengthOf s = ap (sizeOf d) en ∙ sym (g .length-right) in
     let few : gatesIn list ≤ most = all (gatesIn list) (omega (arith, field-lt s 11 5)) (subst (λ (n : ℕ). n ≤ 127) (sym size) (omega (arith, field-lt s 4 7))) in
     sym
@@ -149,17 +124,11 @@ fit-widths (w ∷ ws) (x ∷ list) l e =
 -- the gates of a list that is not refused fit their fields
 fit-gates : (distance : ℕ) (list : List ℕ) (n : ℕ) → length list ≡ gateBytes * n → listRefusal distance list n ≡ 0
     → Fit (times n (gateWidths distance)) list
-unfolding listRefusal oneRefusal times
-fit-gates distance [] zero l e = none
-fit-gates distance (x ∷ list) zero l e = absurd (omega arith)
-fit-gates distance list (suc n) l e =
-    let ws : List ℕ = gateWidths distance in
-    let nine : length ws ≡ gateBytes = length-gate distance in
-    let here : Fit ws (take (length ws) list) =
-    fit-widths ws list (omega arith) (orElse-first _ _ (orElse-first _ _ e)) in
-    let rest : Fit (times n ws) (drop gateBytes list) =
-    fit-gates distance (drop gateBytes list) n (length-drop gateBytes list ∙ omega arith) (orElse-then _ _ e) in
-    subst (Fit (ws ++ times n ws)) (ap (λ (k : ℕ). take k list ++ drop gateBytes list) nine ∙ take-append-drop gateBytes list) (fit-append here rest)
+unfolding listRefusal
+fit-gates distance list n l e =
+    let ws : List ℕ = times n (gateWidths distance) in
+    let long : length ws ≡ length list = length-pieces distance n ∙ sym l in
+    subst (Fit ws) (take-all (length ws) list (omega arith)) (fit-widths ws list (omega arith) (orElse-first _ _ e))
 
 -- a written sub-packet is its values, piece by piece
 values-written : (d most : ℕ) → Sayable d most → (list o : List ℕ) → Listed d most list (length o)
@@ -200,7 +169,7 @@ wrote-parts d list s h whole e =
     let en : countOf s ≡ n = cc in
     let rest : unpack s 16 (ws ++ (w ∷ [])) ≡ list ++ (0 ∷ []) = cc in
     let both : unpack s 16 ws ++ (field s (16 + total ws) w ∷ []) ≡ list ++ (0 ∷ []) = sym (unpack-append s 16 ws (w ∷ [])) ∙ rest in
-    let long : length (unpack s 16 ws) ≡ length list = length-unpack s 16 ws ∙ length-times n (gateWidths d) gateBytes (length-gate d) ∙ sym whole in
+    let long : length (unpack s 16 ws) ≡ length list = length-unpack s 16 ws ∙ length-pieces d n ∙ sym whole in
     let parts = snoc-parts (unpack s 16 ws) list (field s (16 + total ws) w) 0 long both in
     record {
       typed = cc;
@@ -239,13 +208,13 @@ read-accepts d most ok list o room e fits =
     let g = listed d most list (length o) e in
     let w = wrote d most ok list o e in
     let long : length s ≡ length o = length-written d list o in
-    let fields : fieldsRefusal d s 16 (countOf s) ≡ 0 =
-    sym (gates-read d s (ok .wide)) ∙ ap₂ (listRefusal d) (w .gates) (w .counted) ∙ g .right in
+    let rules : rulesRefusal (gatesOf d s) (countOf s) ≡ 0 =
+    sym (gates-read d s) ∙ ap₂ (listRefusal d) (w .gates) (w .counted) ∙ g .right in
     sym
     (next _ _ (head-accepted s (omega arith) (w .typed) (omega arith) (omega arith))
     (next _ _
     (sym
-    (next _ _ (same _ _ _ (w .sized ∙ ap (sizeOf d) (sym (w .counted)))) (next _ _ fields (last-not-below 0 (paddingOf d s) _ (omega arith)))))
+    (next _ _ (same _ _ _ (w .sized ∙ ap (sizeOf d) (sym (w .counted)))) (next _ _ rules (last-not-below 0 (paddingOf d s) _ (omega arith)))))
     (last-not-below room (gateBytes * countOf s) _ (omega arith))))
 
 -- so TWO ACCEPTED SUB-PACKETS with the same gates are the same bytes

@@ -12,14 +12,14 @@ use Rattle.numbers.specs.Fields.{put}
 use Rattle.numbers.specs.Pieces.{total, times, pack}
 use Rattle.numbers.specs.Numbers.{numberAt}
 use Rattle.framing.specs.Refusals.{notWholeGates, tooManyGates, tooWide, noRoom, refuse, orElse}
-use Rattle.gates.specs.Gates.{gateType, distanceWidth, gateBytes, gateWidths, bitsOf, sizeOf, paddingBits, gateRules, gateRefusal, refusedWith, acceptedWith}
-use Rattle.gate_writing.specs.Writing.{mostGates, gatesIn, packetWidths, packetValues, written, widthsRefusal, oneRefusal, listRefusal, writeRefusal, writeAnswer, writeInto}
+use Rattle.gates.specs.Gates.{gateType, distanceWidth, gateBytes, gateWidths, bitsOf, sizeOf, paddingBits, gateRules, gateRefusal, rulesRefusal, refusedWith, acceptedWith}
+use Rattle.gate_writing.specs.Writing.{mostGates, gatesIn, packetWidths, packetValues, written, widthsRefusal, listRefusal, writeRefusal, writeAnswer, writeInto}
 use Rattle.gates.specs.declared.GatesAnswer.{GatesAnswer}
 use Rattle.numbers.proofs.FieldLaws.{Bytes}
 use Rattle.numbers.proofs.NumberLaws.{number-byte, number-pair}
-use Rattle.numbers.proofs.PieceLaws.{total-append, length-times, pack-append, pack-extra}
+use Rattle.numbers.proofs.PieceLaws.{total-append, pack-append, pack-extra}
 use Rattle.framing.proofs.RefusalLaws.{orElse-first, orElse-then, orElse-go, ends, refuse-none, unless-none, unless-some}
-use Rattle.gates.proofs.GateLaws.{length-gate, bits-gates}
+use Rattle.gates.proofs.GateLaws.{length-pieces, bits-gates}
 
 -- a whole sub-packet takes whole bytes
 pub total-packet : (distance n : ℕ) → 8 ≤ distance → total (packetWidths distance n) ≡ 8 * sizeOf distance n
@@ -31,23 +31,23 @@ total-packet distance n h =
 
 -- ---- the walks over a gate's bytes and over the gates, a turn at a time
 
-pub widths-none : (distance : ℕ) (gate : List ℕ) → widthsRefusal (drop gateBytes (gateWidths distance)) gate ≡ 0
-unfolding widthsRefusal gateWidths
-widths-none distance gate = refl
+pub widths-none : (list : List ℕ) → widthsRefusal [] list ≡ 0
+unfolding widthsRefusal
+widths-none list = refl
 
-module _ (ws list : List ℕ) (i j w : ℕ) (h : j < length ws) (e : w ≡ getD ws j 0) where
-  first-byte : getD (drop i list) 0 0 ≡ getD list i 0
-  first-byte = getD-drop i list 0 0 ∙ ap (λ (k : ℕ). getD list k 0) (add-zero i)
+module _ (ws list : List ℕ) (k w : ℕ) (h : k < length ws) (e : w ≡ getD ws k 0) where
+  first-byte : getD (drop k list) 0 0 ≡ getD list k 0
+  first-byte = getD-drop k list 0 0 ∙ ap (λ (i : ℕ). getD list i 0) (add-zero k)
 
-  pub widths-stop : 2 ^ w ≤ getD list i 0 → tooWide ≡ widthsRefusal (drop j ws) (drop i list)
+  pub widths-stop : 2 ^ w ≤ getD list k 0 → tooWide ≡ widthsRefusal (drop k ws) (drop k list)
   unfolding widthsRefusal orElse refuse
-  widths-stop l = rw (drop-cons ws j 0 h, first-byte, ← e) (simp (le-leb (2 ^ w) (getD list i 0) l))
+  widths-stop l = rw (drop-cons ws k 0 h, first-byte, ← e) (simp (le-leb (2 ^ w) (getD list k 0) l))
 
-  pub widths-go : getD list i 0 < 2 ^ w → widthsRefusal (drop (j + 1) ws) (drop (i + 1) list) ≡ widthsRefusal (drop j ws) (drop i list)
+  pub widths-go : getD list k 0 < 2 ^ w → widthsRefusal (drop (k + 1) ws) (drop (k + 1) list) ≡ widthsRefusal (drop k ws) (drop k list)
   unfolding widthsRefusal orElse refuse
   widths-go l =
-      let d : drop 1 (drop i list) ≡ drop (i + 1) list = drop-drop 1 i list in
-      rw (drop-cons ws j 0 h, first-byte, d, add-one j, ← e) (simp (lt-leb (2 ^ w) (getD list i 0) l))
+      let d : drop 1 (drop k list) ≡ drop (k + 1) list = drop-drop 1 k list in
+      rw (drop-cons ws k 0 h, first-byte, d, add-one k, ← e) (simp (lt-leb (2 ^ w) (getD list k 0) l))
 
 -- the rules on the gate at index i, by its numbers
 pub rules-at : (list : List ℕ) (i : ℕ) → Bytes list
@@ -57,24 +57,19 @@ rules-at list i h =
     rw (number-pair list (i + 2) h, number-byte list (i + 4) (h (i + 4)), number-byte list (i + 6) (h (i + 6)), number-byte list (i + 8) (h (i + 8)))
     (rw (add-assoc i 2 1) (simp getD-drop))
 
-pub list-none : (distance : ℕ) (list : List ℕ) → listRefusal distance list 0 ≡ 0
-unfolding listRefusal
-list-none distance list = refl
+module _ (list : List ℕ) (i m a : ℕ) (h : 0 < m) (e : a ≡ gateRefusal (drop i list)) where
+  rules-more : orElse (gateRefusal (drop i list)) (rulesRefusal (drop (i + gateBytes) list) (m - 1)) ≡ rulesRefusal (drop i list) m
+  unfolding rulesRefusal
+  rules-more =
+      let n : suc (m - 1) ≡ m = omega arith in
+      ap (λ (l : List ℕ). orElse (gateRefusal (drop i list)) (rulesRefusal l (m - 1))) (sym (drop-drop gateBytes i list))
+      ∙ ap (rulesRefusal (drop i list)) n
 
-list-more : (distance : ℕ) (list : List ℕ) (i m : ℕ) → 0 < m
-    → orElse (oneRefusal distance (drop i list)) (listRefusal distance (drop (i + gateBytes) list) (m - 1)) ≡ listRefusal distance (drop i list) m
-unfolding listRefusal
-list-more distance list i m h =
-    let e : suc (m - 1) ≡ m = omega arith in
-    ap (λ (l : List ℕ). orElse (oneRefusal distance (drop i list)) (listRefusal distance l (m - 1))) (sym (drop-drop gateBytes i list))
-    ∙ ap (listRefusal distance (drop i list)) e
+  pub rules-stop : (a ≡ 0 → ⊥) → a ≡ rulesRefusal (drop i list) m
+  rules-stop ne = ends _ _ e ne ∙ rules-more
 
-pub list-stop : (distance : ℕ) (list : List ℕ) (i m a : ℕ) → 0 < m → a ≡ oneRefusal distance (drop i list) → (a ≡ 0 → ⊥) → a ≡ listRefusal distance (drop i list) m
-list-stop distance list i m a h e ne = ends _ _ e ne ∙ list-more distance list i m h
-
-pub list-go : (distance : ℕ) (list : List ℕ) (i m a : ℕ) → 0 < m → a ≡ oneRefusal distance (drop i list) → a ≡ 0
-    → listRefusal distance (drop (i + gateBytes) list) (m - 1) ≡ listRefusal distance (drop i list) m
-list-go distance list i m a h e z = sym (orElse-go _ _ (sym e ∙ z)) ∙ list-more distance list i m h
+  pub rules-go : a ≡ 0 → rulesRefusal (drop (i + gateBytes) list) (m - 1) ≡ rulesRefusal (drop i list) m
+  rules-go z = sym (orElse-go _ _ (sym e ∙ z)) ∙ rules-more
 
 -- a gate write that is not refused
 pub record Listed (distance most : ℕ) (list : List ℕ) (room : ℕ) : Type 0 where
@@ -108,7 +103,7 @@ written-steps distance list o a b c d hd whole ea eb ec ed =
     let n : ℕ = gatesIn list in
     let ws : List ℕ = times n (gateWidths distance) in
     let w : ℕ = paddingBits distance n in
-    let el : length ws ≡ length list = length-times n (gateWidths distance) gateBytes (length-gate distance) ∙ sym whole in
+    let el : length ws ≡ length list = length-pieces distance n ∙ sym whole in
     let tail : pack c 16 (ws ++ (w ∷ [])) (list ++ (0 ∷ [])) ≡ put (pack c 16 ws list) (bitsOf distance n) w 0 =
     pack-append c 16 ws (w ∷ []) (list ++ (0 ∷ []))
     ∙ ap₂ (λ (x y : List ℕ). pack x (16 + total ws) (w ∷ []) y) (pack-extra c 16 ws list (0 ∷ []) el) (drop-at list (0 ∷ []) (length ws) (sym el))

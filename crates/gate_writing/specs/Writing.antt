@@ -1,11 +1,11 @@
 -- Gates written as a sub-packet: `list` is the gates outside, 9 bytes for each, and o what the output held.
-use Prim.Native.Nat.{ℕ, zero, suc, _/_, _%_, _^_}
+use Prim.Native.Nat.{ℕ, _/_, _%_, _^_}
 use mathlib.Core.List.{List, [], _∷_, _++_}
 use lib.ListN.{length, getD, drop}
 use lib.Dec.{ltb, leb}
 use Rattle.numbers.specs.Pieces.{times, pack}
 use Rattle.framing.specs.Refusals.{notWholeGates, tooManyGates, tooWide, noRoom, refuse, orElse, unlessRefused}
-use Rattle.gates.specs.Gates.{gateType, distanceWidth, gateBytes, gateWidths, sizeOf, paddingBits, gateRefusal, refusedWith, acceptedWith}
+use Rattle.gates.specs.Gates.{gateType, distanceWidth, gateBytes, gateWidths, sizeOf, paddingBits, rulesRefusal, refusedWith, acceptedWith}
 use Rattle.gates.specs.declared.GatesAnswer.{GatesAnswer}
 
 -- the most gates that are written
@@ -28,19 +28,14 @@ packetValues distance n list = gateType ∷ sizeOf distance n ∷ n ∷ (list ++
 unfoldable pub written : ℕ → List ℕ → List ℕ → List ℕ
 written distance list o = pack o 0 (packetWidths distance (gatesIn list)) (packetValues distance (gatesIn list) list)
 
--- no byte of a gate has more digits than its piece is wide
+-- no byte has more digits than its piece is wide
 unfoldable pub widthsRefusal : List ℕ → List ℕ → ℕ
-widthsRefusal [] gate = 0
-widthsRefusal (w ∷ ws) gate = orElse (refuse (leb (2 ^ w) (getD gate 0 0)) tooWide) (widthsRefusal ws (drop 1 gate))
+widthsRefusal [] list = 0
+widthsRefusal (w ∷ ws) list = orElse (refuse (leb (2 ^ w) (getD list 0 0)) tooWide) (widthsRefusal ws (drop 1 list))
 
--- the rules on the first gate of a list
-unfoldable pub oneRefusal : ℕ → List ℕ → ℕ
-oneRefusal distance list = orElse (widthsRefusal (gateWidths distance) list) (gateRefusal list)
-
--- and on each of the first n
+-- the rules on the first n gates of a list
 unfoldable pub listRefusal : ℕ → List ℕ → ℕ → ℕ
-listRefusal distance list zero = 0
-listRefusal distance list (suc n) = orElse (oneRefusal distance list) (listRefusal distance (drop gateBytes list) n)
+listRefusal distance list n = orElse (widthsRefusal (times n (gateWidths distance)) list) (rulesRefusal list n)
 
 -- the rules of a gate write in their order, at most `most` gates into room bytes
 unfoldable pub writeRefusal : ℕ → ℕ → List ℕ → ℕ → ℕ

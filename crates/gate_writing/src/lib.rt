@@ -3,54 +3,42 @@
 use framing::refusals;
 use gates::GatesAnswer;
 ghost use mathlib.Core.Path.{_≡_};
-ghost use Prim.Native.Nat.{_+_, _*_, _≤_};
-ghost use lib.ListN.{length, drop};
+ghost use Prim.Native.Nat.{_*_, _≤_};
+ghost use lib.ListN.{length};
 ghost use Rattle.numbers.specs.Pieces.{times, pack};
-ghost use Rattle.gates.specs.Gates.{gateBytes, gateWidths, sizeOf};
-ghost use Rattle.gate_writing.specs.Writing.{written, widthsRefusal, oneRefusal, listRefusal, writeRefusal, writeAnswer, writeInto};
+ghost use Rattle.gates.specs.Gates.{gateBytes, gateWidths, sizeOf, rulesRefusal};
+ghost use Rattle.gate_writing.specs.Writing.{written, widthsRefusal, listRefusal, writeRefusal, writeAnswer, writeInto};
 
 const MOST_GATES: usize = 28;
 
-// The refusal of a byte of the gate at index `at` that has more digits than its piece is wide.
-fn widths_refusal(list: &[u8], at: usize, distance: u8) -> u32
-    requires { ⌜ (distance ≤ 15) × (at + gateBytes ≤ length (now list)) ⌝ }
-    ensures { λ r. ⌜ r ≡ widthsRefusal (gateWidths distance) (drop at (now (list .entry))) ⌝ }
+// The refusal of a byte of the n gates of a list that has more digits than its piece is wide.
+fn widths_refusal(list: &[u8], distance: u8, n: usize) -> u32
+    requires { ⌜ (distance ≤ 15) × (gateBytes * n ≤ length (now list)) ⌝ }
+    ensures { λ r. ⌜ r ≡ widthsRefusal (times n (gateWidths distance)) (now (list .entry)) ⌝ }
 {
-    let mut j = 0;
-    while j < gates::GATE_BYTES {
-        if 1u32 << gates::piece_width(distance, j) <= numbers::byte_at(list, at + j) {
+    let mut k = 0;
+    while k < gates::GATE_BYTES * n {
+        if 1u32 << gates::piece_width(distance, k) <= numbers::byte_at(list, k) {
             return refusals::TOO_WIDE;
         }
-        j += 1;
+        k += 1;
     }
     refusals::NONE
 }
 
-// The refusal that the gate at index `at` gets.
-fn one_refusal(list: &[u8], at: usize, distance: u8) -> u32
-    requires { ⌜ (distance ≤ 15) × (at + gateBytes ≤ length (now list)) ⌝ }
-    ensures { λ r. ⌜ r ≡ oneRefusal distance (drop at (now (list .entry))) ⌝ }
-{
-    let widths = widths_refusal(list, at, distance);
-    if widths != refusals::NONE {
-        return widths;
-    }
-    let number = numbers::half_at(list, at + 2);
-    let suffix = numbers::byte_at(list, at + 4);
-    let class = numbers::byte_at(list, at + 6);
-    let whistle = numbers::byte_at(list, at + 8);
-    gates::gate_rules(number, suffix, class, whistle)
-}
-
-// The first refusal of the n gates of a list.
-fn list_refusal(list: &[u8], distance: u8, n: usize) -> u32
-    requires { ⌜ (distance ≤ 15) × (gateBytes * n ≤ length (now list)) ⌝ }
-    ensures { λ r. ⌜ r ≡ listRefusal distance (now (list .entry)) n ⌝ }
+// The first refusal of the n gates of a list by what is allowed in a gate.
+fn rules_refusal(list: &[u8], n: usize) -> u32
+    requires { ⌜ gateBytes * n ≤ length (now list) ⌝ }
+    ensures { λ r. ⌜ r ≡ rulesRefusal (now (list .entry)) n ⌝ }
 {
     let mut at = 0;
     let mut i = 0;
     while i < n {
-        let refusal = one_refusal(list, at, distance);
+        let number = numbers::half_at(list, at + 2);
+        let suffix = numbers::byte_at(list, at + 4);
+        let class = numbers::byte_at(list, at + 6);
+        let whistle = numbers::byte_at(list, at + 8);
+        let refusal = gates::gate_rules(number, suffix, class, whistle);
         if refusal != refusals::NONE {
             return refusal;
         }
@@ -58,6 +46,18 @@ fn list_refusal(list: &[u8], distance: u8, n: usize) -> u32
         i += 1;
     }
     refusals::NONE
+}
+
+// The refusal that the n gates of a list get.
+fn list_refusal(list: &[u8], distance: u8, n: usize) -> u32
+    requires { ⌜ (distance ≤ 15) × (gateBytes * n ≤ length (now list)) ⌝ }
+    ensures { λ r. ⌜ r ≡ listRefusal distance (now (list .entry)) n ⌝ }
+{
+    let widths = widths_refusal(list, distance, n);
+    if widths != refusals::NONE {
+        return widths;
+    }
+    rules_refusal(list, n)
 }
 
 // The refusal that a write of at most `most` gates into `room` bytes gets.
@@ -82,34 +82,18 @@ fn write_refusal(list: &[u8], room: usize, distance: u8, most: usize) -> u32
     refusals::NONE
 }
 
-// Writes the gate at index `at` of a list at bit p.
-fn put_gate(out: &mut [u8], p: usize, distance: u8, list: &[u8], at: usize)
-    requires { ⌜ (p ≤ 2000) × (distance ≤ 15) × (at + gateBytes ≤ length (now list)) ⌝ }
-    ensures { λ _. ⌜ now (out .exit) ≡ pack (now (out .entry)) p (gateWidths distance) (drop at (now (list .entry))) ⌝ }
-{
-    let mut q = p;
-    let mut j = 0;
-    while j < gates::GATE_BYTES {
-        let w = gates::piece_width(distance, j);
-        fields::write_field(out, q, w, numbers::byte_at(list, at + j));
-        q += w;
-        j += 1;
-    }
-}
-
-// Writes the n gates of a list from bit 16 on.
+// Writes the n gates of a list from bit 16 on, a piece at a time.
 fn put_gates(out: &mut [u8], distance: u8, list: &[u8], n: usize)
-    requires { ⌜ (8 ≤ distance) × (distance ≤ 15) × (n ≤ 31) × (gateBytes * n ≤ length (now list)) ⌝ }
+    requires { ⌜ (distance ≤ 15) × (n ≤ 31) × (gateBytes * n ≤ length (now list)) ⌝ }
     ensures { λ _. ⌜ now (out .exit) ≡ pack (now (out .entry)) 16 (times n (gateWidths distance)) (now (list .entry)) ⌝ }
 {
     let mut p = 16;
-    let mut at = 0;
-    let mut i = 0;
-    while i < n {
-        put_gate(out, p, distance, list, at);
-        p += gates::gate_bits(distance);
-        at += gates::GATE_BYTES;
-        i += 1;
+    let mut k = 0;
+    while k < gates::GATE_BYTES * n {
+        let w = gates::piece_width(distance, k);
+        fields::write_field(out, p, w, numbers::byte_at(list, k));
+        p += w;
+        k += 1;
     }
 }
 

@@ -1,17 +1,20 @@
 -- Laws of a gate's layout.
 use mathlib.Core.Path.{_≡_, refl, sym, ap, _∙_}
-use mathlib.Core.List.{List, [], _∷_}
-use Prim.Native.Nat.{ℕ, zero, suc, _+_, _-_, _*_, _^_, _≤_, _<_}
+use mathlib.Core.List.{List, [], _∷_, _++_}
+use mathlib.Core.Logic.{⊎-elim}
+use Prim.Native.Nat.{ℕ, zero, suc, _+_, _-_, _*_, _%_, _^_, _≤_, _<_}
 use native.Mathlib.Nat.{mul-le-mul, lt-of-lt-of-le, mul-suc}
 use native.Mathlib.Omega.{arith}
 use lib.Pow.{pow-mono}
 use lib.Dec.{lit≤}
-use lib.ListN.{length, getD}
+use lib.ListN.{length, getD, List·getD-append}
+use lib.Seq.{getD-append-add}
 use Rattle.numbers.specs.Fields.{field}
 use Rattle.numbers.specs.Pieces.{total, times}
-use Rattle.gates.specs.Gates.{gateBytes, gateWidths, gateBits, bitsOf}
+use Rattle.gates.specs.Gates.{gateBytes, gateWidths, gateBits, bitsOf, rulesRefusal}
 use Rattle.numbers.proofs.FieldLaws.{field-lt}
-use Rattle.numbers.proofs.PieceLaws.{total-times}
+use Rattle.numbers.proofs.Logic.{lt-or-le}
+use Rattle.numbers.proofs.PieceLaws.{total-times, length-times}
 
 pub total-gate : (distance : ℕ) → 8 ≤ distance → total (gateWidths distance) ≡ gateBits distance
 unfolding total gateWidths
@@ -45,6 +48,28 @@ piece-small distance h =
     (more (lit≤ tt)
     (more (lit≤ tt) (more (lit≤ tt) (more (lit≤ tt) (more (lit≤ tt) (more (lit≤ tt) none)))))))))
 
+-- the piece at k of n gates is the one at k % 9 of a gate
+pub piece-at : (distance n k : ℕ) → k < gateBytes * n → getD (times n (gateWidths distance)) k 0 ≡ getD (gateWidths distance) (k % gateBytes) 0
+unfolding times
+piece-at distance zero k h = absurd (omega arith)
+piece-at distance (suc n) k h =
+    let ws : List ℕ = gateWidths distance in
+    ⊎-elim
+    (λ (l : k < gateBytes).
+    let e : k ≡ k % gateBytes = omega arith in
+    List·getD-append ws (times n ws) 0 k (rw length-gate l) ∙ ap (λ (i : ℕ). getD ws i 0) e)
+    (λ (l : gateBytes ≤ k).
+    let m : k ≡ length ws + (k - gateBytes) = omega (arith, length-gate distance) in
+    let e : (k - gateBytes) % gateBytes ≡ k % gateBytes = omega arith in
+    ap (λ (i : ℕ). getD (ws ++ times n ws) i 0) m
+    ∙ getD-append-add ws (times n ws) (k - gateBytes) 0
+    ∙ piece-at distance n (k - gateBytes) (omega arith)
+    ∙ ap (λ (i : ℕ). getD ws i 0) e)
+    (lt-or-le k gateBytes)
+
+pub length-pieces : (distance n : ℕ) → length (times n (gateWidths distance)) ≡ gateBytes * n
+length-pieces distance n = length-times n (gateWidths distance) gateBytes (length-gate distance)
+
 -- so its value is a byte
 pub piece-byte : (s : List ℕ) (q w : ℕ) → w ≤ 8 → field s q w < 256
 piece-byte s q w h = lt-of-lt-of-le (field-lt s q w) (pow-mono {i = w} {j = 8} h)
@@ -57,3 +82,8 @@ tail-same x y xs (suc j) h = refl
 -- the gates' bits stay few
 pub product-small : (distance n : ℕ) → distance ≤ 255 → gateBits distance * n ≤ 275 * n
 product-small distance n h = mul-le-mul {n₁ = gateBits distance} {m₁ = n} {n₂ = 275} {m₂ = n} (omega arith) (omega arith)
+
+-- no gates, no refusal
+pub rules-none : (list : List ℕ) → rulesRefusal list 0 ≡ 0
+unfolding rulesRefusal
+rules-none list = refl

@@ -1,7 +1,7 @@
 -- Gates: their fields inside a sub-packet, their bytes outside it, and what is allowed. `distance` is the width of a gate's distance.
-use Prim.Native.Nat.{ℕ, _+_, _-_, _*_, _/_}
+use Prim.Native.Nat.{ℕ, zero, suc, _+_, _-_, _*_, _/_}
 use mathlib.Core.List.{List, [], _∷_}
-use lib.ListN.{getD}
+use lib.ListN.{getD, drop}
 use lib.Dec.{ltb}
 use Rattle.framing.specs.Refusals.{notAllowed, refuse, orElse}
 use Rattle.gates.specs.declared.GatesAnswer.{GatesAnswer}
@@ -63,6 +63,11 @@ gateRules number suffix class whistle =
 -- the rules on a gate's 9 bytes
 unfoldable pub gateRefusal : List ℕ → ℕ
 gateRefusal gate = gateRules (getD gate 2 0 * 256 + getD gate 3 0) (getD gate 4 0) (getD gate 6 0) (getD gate 8 0)
+
+-- the rules on each of the first n gates of a list, 9 bytes for each
+unfoldable pub rulesRefusal : List ℕ → ℕ → ℕ
+rulesRefusal list zero = 0
+rulesRefusal list (suc n) = orElse (gateRefusal list) (rulesRefusal (drop gateBytes list) n)
 
 -- the answer of a gate read or write that is refused: zeros
 abbrev pub refusedWith : ℕ → GatesAnswer

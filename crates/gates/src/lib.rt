@@ -2,9 +2,9 @@
 // distance.
 use framing::refusals;
 ghost use mathlib.Core.Path.{_≡_};
-ghost use Prim.Native.Nat.{_+_, _*_, _≤_};
+ghost use Prim.Native.Nat.{_+_, _*_, _%_, _≤_};
 ghost use lib.ListN.{getD};
-ghost use Rattle.gates.specs.Gates.{gateWidths, gateBits, bitsOf, gateRules};
+ghost use Rattle.gates.specs.Gates.{gateBytes, gateWidths, gateBits, bitsOf, gateRules};
 
 pub const GATE_TYPE: u32 = 3;
 
@@ -30,16 +30,17 @@ pub struct GatesAnswer {
 }
 
 // The widths of a gate's pieces behind the first, which is what the distance has above its low 8 bits.
-const WIDTHS: [u8; GATE_BYTES] = [0, 8, 2, 8, 3, 1, 3, 1, 2];
+const WIDTHS: [usize; GATE_BYTES] = [0, 8, 2, 8, 3, 1, 3, 1, 2];
 
-// The width of a gate's piece j; 0 behind the last.
-pub fn piece_width(distance: u8, j: usize) -> usize
-    ensures { λ r. ⌜ r ≡ getD (gateWidths distance) j 0 ⌝ }
+// The width of piece k of gates one behind the other.
+pub fn piece_width(distance: u8, k: usize) -> usize
+    ensures { λ r. ⌜ r ≡ getD (gateWidths distance) (k % gateBytes) 0 ⌝ }
 {
+    let j = k % GATE_BYTES;
     if j == 0 {
         distance as usize - numbers::at_most(distance as usize, 8)
     } else {
-        numbers::byte_at(&WIDTHS, j) as usize
+        WIDTHS[j]
     }
 }
 

@@ -5,8 +5,9 @@ use native.Mathlib.Omega.{arith}
 use Rattle.numbers.specs.Fields.{field}
 use Rattle.framing.specs.Framing.{lengthOf}
 use Rattle.framing.proofs.RefusalLaws.{next, ends, same, differ, last-not-below, last-below}
-use Rattle.gates.specs.Gates.{bitsOf, sizeOf}
-use Rattle.gate_reading.specs.Reading.{countOf, fieldsRefusal, paddingOf, bodyRefusal}
+use Rattle.numbers.specs.Pieces.{times, unpack}
+use Rattle.gates.specs.Gates.{gateWidths, bitsOf, sizeOf, rulesRefusal}
+use Rattle.gate_reading.specs.Reading.{countOf, gatesOf, paddingOf, bodyRefusal}
 use borrow.Author.Needs.{needs}
 use Rattle.gate_reading.proofs.body_refusal.Statement.{statement}
 use Rattle.gate_reading.proofs.body_refusal.Tie as tie
@@ -18,8 +19,10 @@ bits-eq c = c .bits-of .ensures .0 ∙ ap (bitsOf (c .before .before .before .ar
 length-eq : (c : tie.Else1) → lengthOf (c .before .before .before .before .before .args .s .now) ≡ sizeOf (c .before .before .before .before .before .args .distance) (countOf (c .before .before .before .before .before .args .s .now))
 length-eq c = sym (c .before .length-of .ensures .0) ∙ c .if1 .left ∙ ap (λ (b : ℕ). (b + 7) / 8) (bits-eq (c .before .before))
 
-fields-eq : (c : tie.After-fields-refusal) → c .fields-refusal .result ≡ fieldsRefusal (c .before .before .before .before .before .before .args .distance) (c .before .before .before .before .before .before .args .s .now) 16 (countOf (c .before .before .before .before .before .before .args .s .now))
-fields-eq c = c .fields-refusal .ensures ∙ ap (fieldsRefusal (c .before .before .before .before .before .before .args .distance) (c .before .before .before .before .before .before .args .s .now) 16) (c .before .before .before .before .count-of .ensures .0)
+rules-eq : (c : tie.After-rules-refusal) → c .rules-refusal .result ≡ rulesRefusal (gatesOf (c .before .before .before .before .before .before .args .distance) (c .before .before .before .before .before .before .args .s .now)) (countOf (c .before .before .before .before .before .before .args .s .now))
+unfolding gatesOf
+rules-eq c = let a = c .before .before .before .before .before .before .args in
+    c .rules-refusal .ensures ∙ ap (λ (n : ℕ). rulesRefusal (unpack (a .s .now) 16 (times n (gateWidths (a .distance)))) n) (c .before .before .before .before .count-of .ensures .0)
 
 padding-eq : (c : tie.After-read-field) → c .read-field .result ≡ paddingOf (c .before .before .before .before .before .before .before .before .args .distance) (c .before .before .before .before .before .before .before .before .args .s .now)
 padding-eq c =
@@ -35,20 +38,20 @@ returns c = differ _ _ _ _ (λ e. c .if1 .taken (c .before .length-of .ensures .
 
 returns-2 : tie.Need-returns-2
 unfolding bodyRefusal
-returns-2 c = next _ _ (same _ _ _ (length-eq (c .before .before))) (ends _ _ (fields-eq (c .before)) (c .if2 .taken))
+returns-2 c = next _ _ (same _ _ _ (length-eq (c .before .before))) (ends _ _ (rules-eq (c .before)) (c .if2 .taken))
 
 returns-3 : tie.Need-returns-3
 unfolding bodyRefusal
 returns-3 c = let a = c .before .before .before .before .before .before .before .before .before .args in
     next _ _ (same _ _ _ (length-eq (c .before .before .before .before)))
-    (next _ _ (sym (fields-eq (c .before .before .before)) ∙ c .before .before .if2 .left)
+    (next _ _ (sym (rules-eq (c .before .before .before)) ∙ c .before .before .if2 .left)
     (last-below 0 (paddingOf (a .distance) (a .s .now)) _ (omega (arith, padding-eq (c .before)))))
 
 returns-4 : tie.Need-returns-4
 unfolding bodyRefusal
 returns-4 c = let a = c .before .before .before .before .before .before .before .before .before .args in
     next _ _ (same _ _ _ (length-eq (c .before .before .before .before)))
-    (next _ _ (sym (fields-eq (c .before .before .before)) ∙ c .before .before .if2 .left)
+    (next _ _ (sym (rules-eq (c .before .before .before)) ∙ c .before .before .if2 .left)
     (last-not-below 0 (paddingOf (a .distance) (a .s .now)) _ (omega (arith, padding-eq (c .before)))))
 
 pub body-refusal-spec : {M : Type 1} → statement M
