@@ -16,9 +16,9 @@ use Rattle.framing.specs.Refusals.{lengthNotForCount, paddingSet, noRoom, refus
 use Rattle.framing.specs.Framing.{lengthOf}
 use Rattle.framing.proofs.RefusalLaws.{differ, unless-some}
 use Rattle.framing.proofs.BehindLaws.{length-front, head-front, unread, inside, there}
-use Rattle.gates.specs.Gates.{gateType, distanceWidth, gateBytes, gateWidths, bitsOf, sizeOf, paddingBits, rulesRefusal, refusedWith, acceptedWith}
+use Rattle.gates.specs.Gates.{countOf, gateType, distanceWidth, gateBytes, gateWidths, bitsOf, sizeOf, paddingBits, rulesRefusal, refusedWith, acceptedWith}
 use Rattle.gates.proofs.GateLaws.{bits-gates}
-use Rattle.gate_reading.specs.Reading.{countOf, gatesOf, paddingOf, bodyRefusal, readRefusal, readAnswer, readInto}
+use Rattle.gate_reading.specs.Reading.{gatesOf, paddingOf, bodyRefusal, readRefusal, readAnswer, readInto}
 use Rattle.gate_reading.proofs.ReadingLaws.{gated}
 
 -- the first n bytes, among them the whole first sub-packet

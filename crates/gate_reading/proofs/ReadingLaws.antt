@@ -1,7 +1,7 @@
 -- Laws of gate reading.
 use mathlib.Core.Path.{_≡_, refl, sym, ap, _∙_}
 use mathlib.Core.List.{List, _++_}
-use Prim.Native.Nat.{ℕ, zero, suc, _+_, _-_, _*_, _/_, _%_, _≤_, _<_}
+use Prim.Native.Nat.{ℕ, suc, _+_, _-_, _*_, _/_, _%_, _≤_, _<_}
 use native.Mathlib.Nat.{zero-add}
 use native.Mathlib.Omega.{arith}
 use borrow.Author.Tests.{ltb-false, eqb-true, not-false}
@@ -9,10 +9,10 @@ use lib.ListN.{length, getD, drop}
 use lib.Seq.{sets, sets-eq, drop-at}
 use Rattle.numbers.specs.Fields.{field}
 use Rattle.numbers.specs.Pieces.{times, unpack}
-use Rattle.framing.specs.Refusals.{lengthNotForCount, paddingSet, noRoom, refuse, orElse}
-use Rattle.framing.specs.Framing.{lengthOf, headRefusal}
-use Rattle.gates.specs.Gates.{gateType, distanceWidth, gateBytes, gateWidths, gateBits, sizeOf, gateRules, gateRefusal, rulesRefusal, refusedWith, acceptedWith}
-use Rattle.gate_reading.specs.Reading.{countOf, gatesOf, paddingOf, bodyRefusal, readRefusal, readAnswer, readInto}
+use Rattle.framing.specs.Refusals.{orElse}
+use Rattle.framing.specs.Framing.{lengthOf}
+use Rattle.gates.specs.Gates.{countOf, gateType, distanceWidth, gateBytes, gateWidths, gateBits, sizeOf, gateRules, gateRefusal, rulesRefusal, refusedWith, acceptedWith}
+use Rattle.gate_reading.specs.Reading.{gatesOf, paddingOf, bodyRefusal, readRefusal, readAnswer, readInto}
 use Rattle.gates.specs.declared.GatesAnswer.{GatesAnswer}
 use Rattle.numbers.proofs.FieldLaws.{field-add, field-lt}
 use Rattle.numbers.proofs.PieceLaws.{length-unpack, unpack-append, times-suc}

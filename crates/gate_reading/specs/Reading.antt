@@ -8,12 +8,8 @@ use Rattle.numbers.specs.Fields.{field}
 use Rattle.numbers.specs.Pieces.{times, unpack}
 use Rattle.framing.specs.Refusals.{lengthNotForCount, paddingSet, noRoom, refuse, orElse, unlessRefused}
 use Rattle.framing.specs.Framing.{lengthOf, headRefusal}
-use Rattle.gates.specs.Gates.{gateType, distanceWidth, gateBytes, gateWidths, bitsOf, sizeOf, paddingBits, rulesRefusal, refusedWith, acceptedWith}
+use Rattle.gates.specs.Gates.{gateType, distanceWidth, gateBytes, gateWidths, countOf, bitsOf, sizeOf, paddingBits, rulesRefusal, refusedWith, acceptedWith}
 use Rattle.gates.specs.declared.GatesAnswer.{GatesAnswer}
-
--- the count of gates, the 5 bits behind type and length
-abbrev pub countOf : List ℕ → ℕ
-countOf s = field s 11 5
 
 -- the gates outside: 9 bytes for each
 unfoldable pub gatesOf : ℕ → List ℕ → List ℕ

@@ -8,14 +8,7 @@ ghost use lib.ListN.{length};
 ghost use lib.Seq.{sets};
 ghost use Rattle.numbers.specs.Pieces.{times, unpack};
 ghost use Rattle.gates.specs.Gates.{gateBytes, gateWidths, gateRefusal, rulesRefusal};
-ghost use Rattle.gate_reading.specs.Reading.{countOf, bodyRefusal, readRefusal, readAnswer, readInto};
-
-// The count of gates that the sub-packet says.
-fn count_of(s: &[u8]) -> usize
-    ensures { λ r. ⌜ (r ≡ countOf (now (s .entry))) × (r ≤ 31) ⌝ }
-{
-    fields::read_field(s, 11, 5) as usize
-}
+ghost use Rattle.gate_reading.specs.Reading.{bodyRefusal, readRefusal, readAnswer, readInto};
 
 // The refusal that the gate at bit p gets.
 fn gate_refusal(s: &[u8], p: usize, distance: u8) -> u32
@@ -53,7 +46,7 @@ fn body_refusal(s: &[u8], distance: u8) -> u32
     requires { ⌜ (8 ≤ distance) × (distance ≤ 15) ⌝ }
     ensures { λ r. ⌜ r ≡ bodyRefusal distance (now (s .entry)) ⌝ }
 {
-    let n = count_of(s);
+    let n = gates::count_of(s);
     let bits = gates::bits_of(distance, n as u32);
     let size = (bits + 7) / 8;
     if framing::length_of(s) != size {
@@ -82,7 +75,7 @@ fn read_refusal(s: &[u8], room: usize, distance: u8) -> u32
     if body != refusals::NONE {
         return body;
     }
-    if room < gates::GATE_BYTES * count_of(s) {
+    if room < gates::GATE_BYTES * gates::count_of(s) {
         return refusals::NO_ROOM;
     }
     refusals::NONE
@@ -117,7 +110,7 @@ pub fn read_gates(s: &[u8], out: &mut [u8]) -> GatesAnswer
             bytes: 0,
         };
     }
-    let gates = count_of(s);
+    let gates = gates::count_of(s);
     let bytes = framing::length_of(s);
     fill_gates(s, gates::DISTANCE_WIDTH, gates, out);
     GatesAnswer {

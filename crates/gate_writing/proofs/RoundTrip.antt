@@ -2,19 +2,19 @@
 -- sub-packets with the same gates are the same bytes.
 use mathlib.Core.Path.{_≡_, refl, sym, ap, ap₂, _∙_, subst}
 use mathlib.Core.List.{List, [], _∷_, _++_}
-use Prim.Native.Nat.{ℕ, zero, suc, _+_, _-_, _*_, _/_, _%_, _^_, _≤_, _<_}
+use Prim.Native.Nat.{ℕ, _+_, _-_, _*_, _%_, _^_, _≤_}
 use native.Mathlib.Nat.{le-trans, mul-le-mul-left}
 use native.Mathlib.Omega.{arith}
 use borrow.Author.Tests.{lt-leb, leb-false}
-use lib.ListN.{length, getD, take, drop, length-append}
+use lib.ListN.{length, take, drop}
 use lib.Pow.{pow-pos}
 use lib.Seq.{take-at, take-all}
 use Rattle.numbers.specs.Fields.{field}
-use Rattle.numbers.specs.Pieces.{total, times, unpack, pack}
+use Rattle.numbers.specs.Pieces.{total, times, unpack}
 use Rattle.framing.specs.Refusals.{refuse, orElse}
 use Rattle.framing.specs.Framing.{typeOf, lengthOf, headRefusal}
-use Rattle.gates.specs.Gates.{gateType, distanceWidth, gateBytes, gateWidths, gateBits, bitsOf, sizeOf, paddingBits, rulesRefusal, acceptedWith}
-use Rattle.gate_reading.specs.Reading.{countOf, gatesOf, paddingOf, bodyRefusal, readRefusal, readAnswer, readInto}
+use Rattle.gates.specs.Gates.{countOf, gateType, distanceWidth, gateBytes, gateWidths, gateBits, bitsOf, sizeOf, paddingBits, rulesRefusal, acceptedWith}
+use Rattle.gate_reading.specs.Reading.{gatesOf, paddingOf, bodyRefusal, readRefusal, readAnswer, readInto}
 use Rattle.gate_writing.specs.Writing.{mostGates, gatesIn, packetWidths, packetValues, written, widthsRefusal, listRefusal, writeRefusal, writeAnswer, writeInto}
 use Rattle.numbers.proofs.FieldLaws.{Bytes, field-lt}
 use Rattle.numbers.proofs.PieceLaws.{Fit, none, one, unpack-append, unpack-pack, length-unpack, length-pack, round-trip, pack-past}

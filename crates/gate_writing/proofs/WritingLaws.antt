@@ -1,7 +1,7 @@
 -- Laws of gate writing.
 use mathlib.Core.Path.{_≡_, refl, sym, ap, ap₂, _∙_}
 use mathlib.Core.List.{List, [], _∷_, _++_}
-use Prim.Native.Nat.{ℕ, zero, suc, _+_, _-_, _*_, _/_, _%_, _^_, _≤_, _<_}
+use Prim.Native.Nat.{ℕ, suc, _+_, _-_, _*_, _%_, _^_, _≤_, _<_}
 use native.Mathlib.Nat.{add-zero, add-assoc}
 use native.Mathlib.Omega.{arith}
 use native.Mathlib.Numerals.{add-one}
@@ -11,7 +11,7 @@ use lib.Seq.{drop-at, drop-cons, drop-drop, getD-drop}
 use Rattle.numbers.specs.Fields.{put}
 use Rattle.numbers.specs.Pieces.{total, times, pack}
 use Rattle.numbers.specs.Numbers.{numberAt}
-use Rattle.framing.specs.Refusals.{notWholeGates, tooManyGates, tooWide, noRoom, refuse, orElse}
+use Rattle.framing.specs.Refusals.{tooWide, refuse, orElse}
 use Rattle.gates.specs.Gates.{gateType, distanceWidth, gateBytes, gateWidths, bitsOf, sizeOf, paddingBits, gateRules, gateRefusal, rulesRefusal, refusedWith, acceptedWith}
 use Rattle.gate_writing.specs.Writing.{mostGates, gatesIn, packetWidths, packetValues, written, widthsRefusal, listRefusal, writeRefusal, writeAnswer, writeInto}
 use Rattle.gates.specs.declared.GatesAnswer.{GatesAnswer}

@@ -1,9 +1,9 @@
 -- Laws of a gate's layout.
-use mathlib.Core.Path.{_≡_, refl, sym, ap, _∙_}
+use mathlib.Core.Path.{_≡_, refl, ap, _∙_}
 use mathlib.Core.List.{List, [], _∷_, _++_}
 use mathlib.Core.Logic.{⊎-elim}
-use Prim.Native.Nat.{ℕ, zero, suc, _+_, _-_, _*_, _%_, _^_, _≤_, _<_}
-use native.Mathlib.Nat.{mul-le-mul, lt-of-lt-of-le, mul-suc}
+use Prim.Native.Nat.{ℕ, zero, suc, _+_, _-_, _*_, _%_, _≤_, _<_}
+use native.Mathlib.Nat.{mul-le-mul, lt-of-lt-of-le}
 use native.Mathlib.Omega.{arith}
 use lib.Pow.{pow-mono}
 use lib.Dec.{lit≤}
@@ -48,6 +48,10 @@ piece-small distance h =
     (more (lit≤ tt)
     (more (lit≤ tt) (more (lit≤ tt) (more (lit≤ tt) (more (lit≤ tt) (more (lit≤ tt) none)))))))))
 
+-- so its value is a byte
+pub piece-byte : (s : List ℕ) (q w : ℕ) → w ≤ 8 → field s q w < 256
+piece-byte s q w h = lt-of-lt-of-le (field-lt s q w) (pow-mono {i = w} {j = 8} h)
+
 -- the piece at k of n gates is the one at k % 9 of a gate
 pub piece-at : (distance n k : ℕ) → k < gateBytes * n → getD (times n (gateWidths distance)) k 0 ≡ getD (gateWidths distance) (k % gateBytes) 0
 unfolding times
@@ -69,10 +73,6 @@ piece-at distance (suc n) k h =
 
 pub length-pieces : (distance n : ℕ) → length (times n (gateWidths distance)) ≡ gateBytes * n
 length-pieces distance n = length-times n (gateWidths distance) gateBytes (length-gate distance)
-
--- so its value is a byte
-pub piece-byte : (s : List ℕ) (q w : ℕ) → w ≤ 8 → field s q w < 256
-piece-byte s q w h = lt-of-lt-of-le (field-lt s q w) (pow-mono {i = w} {j = 8} h)
 
 -- behind the first piece every gate has the same pieces
 pub tail-same : (x y : ℕ) (xs : List ℕ) (j : ℕ) → (j ≡ 0 → ⊥) → getD (x ∷ xs) j 0 ≡ getD (y ∷ xs) j 0

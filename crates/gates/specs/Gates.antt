@@ -3,6 +3,7 @@ use Prim.Native.Nat.{ℕ, zero, suc, _+_, _-_, _*_, _/_}
 use mathlib.Core.List.{List, [], _∷_}
 use lib.ListN.{getD, drop}
 use lib.Dec.{ltb}
+use Rattle.numbers.specs.Fields.{field}
 use Rattle.framing.specs.Refusals.{notAllowed, refuse, orElse}
 use Rattle.gates.specs.declared.GatesAnswer.{GatesAnswer}
 
@@ -22,6 +23,10 @@ gateBytes = 9
 -- Outside the sub-packet each piece is a byte
 unfoldable pub gateWidths : ℕ → List ℕ
 gateWidths distance = (distance - 8) ∷ 8 ∷ 2 ∷ 8 ∷ 3 ∷ 1 ∷ 3 ∷ 1 ∷ 2 ∷ []
+
+-- the count of gates, the 5 bits behind type and length
+abbrev pub countOf : List ℕ → ℕ
+countOf s = field s 11 5
 
 -- the bits that a gate takes: 35 with a 15-bit distance
 abbrev pub gateBits : ℕ → ℕ

@@ -4,7 +4,7 @@ use framing::refusals;
 ghost use mathlib.Core.Path.{_≡_};
 ghost use Prim.Native.Nat.{_+_, _*_, _%_, _≤_};
 ghost use lib.ListN.{getD};
-ghost use Rattle.gates.specs.Gates.{gateBytes, gateWidths, gateBits, bitsOf, gateRules};
+ghost use Rattle.gates.specs.Gates.{gateBytes, gateWidths, countOf, gateBits, bitsOf, gateRules};
 
 pub const GATE_TYPE: u32 = 3;
 
@@ -42,6 +42,13 @@ pub fn piece_width(distance: u8, k: usize) -> usize
     } else {
         WIDTHS[j]
     }
+}
+
+// The count of gates that the sub-packet says.
+pub fn count_of(s: &[u8]) -> usize
+    ensures { λ r. ⌜ (r ≡ countOf (now (s .entry))) × (r ≤ 31) ⌝ }
+{
+    fields::read_field(s, 11, 5) as usize
 }
 
 // The bits of a gate.

@@ -1,11 +1,11 @@
 -- `fields::read_field` meets its contract. The invariant: `v` is the field of the first `i` bits.
-use Prim.Native.Nat.{_≤_, _<_, _-_, _+_, _*_, _/_, _%_, _^_, min}
-use mathlib.Core.Path.{_≡_, refl, sym, _∙_, ap}
+use Prim.Native.Nat.{_≤_, _-_, _+_, _*_, _/_, _%_, min}
+use mathlib.Core.Path.{_≡_, sym, _∙_, ap}
 use borrow.Author.Needs.{needs}
 use native.Mathlib.Omega.{arith}
 use native.Mathlib.Numerals.{add-one}
 use Rattle.numbers.specs.Fields.{bitAt, field}
-use Rattle.numbers.proofs.FieldLaws.{field-zero, field-suc, field-lt, field-small, bit-lt}
+use Rattle.numbers.proofs.FieldLaws.{field-zero, field-suc, field-small, bit-lt}
 use Rattle.fields.proofs.read_field.Statement.{statement}
 use Rattle.fields.proofs.read_field.Tie as tie
 

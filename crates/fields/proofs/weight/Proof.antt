@@ -1,8 +1,7 @@
 -- `fields::weight` meets its contract: the shift loses nothing.
 use borrow.Author.Needs.{needs}
 use native.Mathlib.Omega.{arith}
-use mathlib.Core.Path.{_≡_, _∙_}
-use Prim.Native.Nat.{ℕ, _*_, _^_, _%_}
+use mathlib.Core.Path.{_∙_}
 use native.Mathlib.Nat.{one-mul}
 use lib.Pow.{shl-exact}
 use Rattle.fields.proofs.weight.Statement.{statement}

@@ -6,8 +6,8 @@ use Rattle.numbers.specs.Fields.{field}
 use Rattle.framing.specs.Framing.{lengthOf}
 use Rattle.framing.proofs.RefusalLaws.{next, ends, same, differ, last-not-below, last-below}
 use Rattle.numbers.specs.Pieces.{times, unpack}
-use Rattle.gates.specs.Gates.{gateWidths, bitsOf, sizeOf, rulesRefusal}
-use Rattle.gate_reading.specs.Reading.{countOf, gatesOf, paddingOf, bodyRefusal}
+use Rattle.gates.specs.Gates.{countOf, gateWidths, bitsOf, sizeOf, rulesRefusal}
+use Rattle.gate_reading.specs.Reading.{gatesOf, paddingOf, bodyRefusal}
 use borrow.Author.Needs.{needs}
 use Rattle.gate_reading.proofs.body_refusal.Statement.{statement}
 use Rattle.gate_reading.proofs.body_refusal.Tie as tie

@@ -3,8 +3,8 @@ use Prim.Native.Nat.{_*_}
 use mathlib.Core.Path.{sym, _∙_}
 use native.Mathlib.Omega.{arith}
 use Rattle.framing.proofs.RefusalLaws.{next, ends, last-not-below, last-below}
-use Rattle.gates.specs.Gates.{gateBytes}
-use Rattle.gate_reading.specs.Reading.{countOf, readRefusal}
+use Rattle.gates.specs.Gates.{countOf, gateBytes}
+use Rattle.gate_reading.specs.Reading.{readRefusal}
 use borrow.Author.Needs.{needs}
 use Rattle.gate_reading.proofs.read_refusal.Statement.{statement}
 use Rattle.gate_reading.proofs.read_refusal.Tie as tie

@@ -1,10 +1,9 @@
 -- `gate_writing::put_packet` meets its contract: one write after the other makes the sub-packet.
 use Prim.Native.Nat.{ℕ, _+_, _-_, _*_, _/_, min}
-use mathlib.Core.Path.{_≡_, sym, ap, ap₂, _∙_}
-use mathlib.Core.List.{List}
+use mathlib.Core.Path.{_≡_, ap, _∙_}
 use native.Mathlib.Omega.{arith}
 use Rattle.numbers.specs.Fields.{put}
-use Rattle.gates.specs.Gates.{gateType, bitsOf, sizeOf, paddingBits}
+use Rattle.gates.specs.Gates.{bitsOf, sizeOf, paddingBits}
 use Rattle.gate_writing.specs.Writing.{gatesIn}
 use Rattle.gate_writing.proofs.WritingLaws.{written-steps}
 use borrow.Author.Needs.{needs}

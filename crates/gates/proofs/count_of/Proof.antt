@@ -1,9 +1,9 @@
--- `gate_reading::count_of` meets its contract.
+-- `gates::count_of` meets its contract.
 use native.Mathlib.Omega.{arith}
 use Rattle.numbers.proofs.FieldLaws.{field-lt}
 use borrow.Author.Needs.{needs}
-use Rattle.gate_reading.proofs.count_of.Statement.{statement}
-use Rattle.gate_reading.proofs.count_of.Tie as tie
+use Rattle.gates.proofs.count_of.Statement.{statement}
+use Rattle.gates.proofs.count_of.Tie as tie
 
 returns : tie.Need-returns
 returns c = (c .read-field .ensures, omega (arith, field-lt (c .before .before .args .s .now) 11 5))
