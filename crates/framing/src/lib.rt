@@ -1,4 +1,4 @@
-// Framing: the refusal of the first sub-packet, and the sub-packet as a part of the lent bytes.
+// The first sub-packet of lent bytes: what refuses it, and where it ends (radio annex). No crate of sub-packets knows anything of trains.
 pub mod refusals;
 
 ghost use mathlib.Core.Path.{_≡_};

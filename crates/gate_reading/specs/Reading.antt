@@ -19,7 +19,7 @@ gatesOf distance s = unpack s 16 (times (countOf s) (gateWidths distance))
 abbrev pub paddingOf : ℕ → List ℕ → ℕ
 paddingOf distance s = field s (bitsOf distance (countOf s)) (paddingBits distance (countOf s))
 
--- the rules on what stands behind the header
+-- the rules behind those of the header: the length that the count asks for, the gates, the padding
 unfoldable pub bodyRefusal : ℕ → List ℕ → ℕ
 bodyRefusal distance s =
     orElse (refuse (not (eqb (lengthOf s) (sizeOf distance (countOf s)))) lengthNotForCount)

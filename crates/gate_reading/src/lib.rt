@@ -41,7 +41,7 @@ fn rules_refusal(s: &[u8], distance: u8, n: usize) -> u32
     refusals::NONE
 }
 
-// The refusal that a gate sub-packet gets by what stands behind its header.
+// The refusal that a gate sub-packet gets by the rules behind those of the header.
 fn body_refusal(s: &[u8], distance: u8) -> u32
     requires { ⌜ (8 ≤ distance) × (distance ≤ 15) ⌝ }
     ensures { λ r. ⌜ r ≡ bodyRefusal distance (now (s .entry)) ⌝ }
