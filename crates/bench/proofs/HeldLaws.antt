@@ -14,7 +14,7 @@ use borrow.Rule.Slice.PartMut.{putMid, take-put}
 use Rattle.io.specs.Counts.{clamped}
 use Rattle.bench.specs.declared.held.Got.{Got}
 use Rattle.bench.specs.declared.held.Held.{Held}
-use Rattle.recording.specs.Records.{longest}
+use Rattle.records.specs.Form.{longest}
 use Rattle.bench.specs.Held.{stretch, heldBytes, behindBy, gotBy, IsReady, ReadOn}
 
 -- ---- a stretch whose offsets are kept within the buffer

@@ -5,8 +5,8 @@ use Prim.Native.Nat.{ℕ, _+_, _≤_}
 use native.Mathlib.Omega.{arith}
 use lib.ListN.{length, take, drop, length-append}
 use lib.Seq.{take-at, length-take-le}
-use Rattle.listing.specs.Turns.{putAt}
-use Rattle.listing.proofs.PlacingLaws.{put-fits}
+use Rattle.turns.specs.Placing.{putAt}
+use Rattle.turns.proofs.PlacingLaws.{put-fits}
 
 -- a text that is put behind what is pending stands whole behind it
 pub text-put : (output : List ℕ) (filled : ℕ) (text : List ℕ) → filled + length text ≤ length output

@@ -11,15 +11,17 @@ use lib.ListN.{length, take, drop, length-append}
 use lib.Seq.{take-append-le, drop-append-le}
 use Rattle.lines.specs.Line.{room}
 use Rattle.lines.specs.Text.{runLine, endLine}
-use Rattle.recording.specs.Records.{longest}
+use Rattle.records.specs.Form.{longest, mostRecords}
+use Rattle.records.specs.declared.told.Ran.{Ran}
+use Rattle.turns.specs.Placing.{putAt}
+use Rattle.turns.specs.Turns.{textOf, oneIfAccepted, isLast, turnOf}
+use Rattle.turns.specs.declared.Turn.{Turn}
+use Rattle.turns.proofs.TurnLaws.{one-most}
 use Rattle.recording.specs.Recorded.{emptySession}
-use Rattle.recording.specs.Running.{mostRecords, ranRecord, bytesAfterRecord}
-use Rattle.recording.specs.declared.running.Ran.{Ran}
+use Rattle.recording.specs.Running.{ranRecord, bytesAfterRecord}
 use Rattle.recording.proofs.RecordLaws.{longest-enough}
-use Rattle.listing.specs.Listing.{textOf, oneIfAccepted, listedFrom, listing}
-use Rattle.listing.specs.Turns.{putAt, isLast, turnOf, left}
-use Rattle.listing.specs.declared.turns.Turn.{Turn}
-use Rattle.listing.proofs.ListingLaws.{turned, ended, used-inside, not-last, one-most}
+use Rattle.listing.specs.Listing.{listedFrom, listing, left}
+use Rattle.listing.proofs.ListingLaws.{turned, ended, used-inside, not-last}
 use Rattle.bench.specs.declared.Play.{Play}
 use Rattle.bench.specs.declared.held.Held.{Held}
 use Rattle.bench.specs.declared.pending.Pending.{Pending}

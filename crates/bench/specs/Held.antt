@@ -8,7 +8,7 @@ use lib.IntN.{ℤ, pos}
 use lib.ListN.{length, take, drop}
 use lib.Signed.{ltZ}
 use Rattle.io.specs.Counts.{clamped}
-use Rattle.recording.specs.Records.{longest}
+use Rattle.records.specs.Form.{longest}
 use Rattle.bench.specs.declared.held.Got.{Got}
 use Rattle.bench.specs.declared.held.Held.{Held}
 

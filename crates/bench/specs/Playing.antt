@@ -6,10 +6,12 @@ use Prim.Native.Nat.{ℕ, _+_, _≤_}
 use lib.ListN.{length}
 use Rattle.lines.specs.Line.{room}
 use Rattle.lines.specs.Text.{runLine, endLine}
-use Rattle.recording.specs.Running.{mostRecords, ranRecord, bytesAfterRecord}
-use Rattle.recording.specs.declared.running.Ran.{Ran}
-use Rattle.listing.specs.Listing.{textOf, oneIfAccepted, listing}
-use Rattle.listing.specs.Turns.{putAt, isLast}
+use Rattle.records.specs.Form.{mostRecords}
+use Rattle.records.specs.declared.told.Ran.{Ran}
+use Rattle.turns.specs.Placing.{putAt}
+use Rattle.turns.specs.Turns.{textOf, oneIfAccepted, isLast}
+use Rattle.recording.specs.Running.{ranRecord, bytesAfterRecord}
+use Rattle.listing.specs.Listing.{listing}
 use Rattle.bench.specs.declared.Play.{Play}
 use Rattle.bench.specs.declared.held.Held.{Held}
 use Rattle.bench.specs.declared.pending.Pending.{Pending}

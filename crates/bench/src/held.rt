@@ -1,6 +1,6 @@
 // What is held of the recording: a stretch of a buffer that is read into as records are used.
 use libc::STDIN_FILENO;
-use recording::running::LONGEST;
+use records::form::LONGEST;
 ghost use mathlib.Core.Path.{_≡_};
 ghost use Prim.Native.Nat.{_+_, _≤_};
 ghost use lib.ListN.{length, take, drop};

@@ -1,7 +1,7 @@
 // Plays a recording: reads it from standard input, runs its records on one session and writes the listing to standard output.
 use held::Held;
 use libc::STDERR_FILENO;
-use listing::turns;
+use listing::runs;
 use pending::Pending;
 ghost use mathlib.Core.Path.{_≡_};
 ghost use Prim.Native.Nat.{_+_, _≤_};
@@ -9,7 +9,7 @@ ghost use lib.ListN.{length};
 ghost use Rattle.lines.specs.Line.{room};
 ghost use Rattle.lines.specs.Text.{runLine};
 ghost use Rattle.recording.specs.Recorded.{emptySession};
-ghost use Rattle.listing.specs.Turns.{putAt};
+ghost use Rattle.turns.specs.Placing.{putAt};
 ghost use Rattle.bench.specs.Playing.{bytes, begunPlay, goesOn, stoppedAt, CanGoOn, RunsFirst, IsTurn, IsPlayed, IsEnded, IsListed};
 
 mod held;
@@ -84,7 +84,7 @@ fn run_first(
     if held.is_end(first) {
         return stopped(play, held, pending);
     }
-    let turn = turns::next(session, first, play.lines as u32, output, pending.filled);
+    let turn = runs::next(session, first, play.lines as u32, output, pending.filled);
     Play {
         held: held.behind(turn.used),
         pending: pending.with(turn.length),
@@ -178,7 +178,7 @@ fn finish(output: &[u8], play: Play) {
 }
 
 fn main() {
-    let mut session = turns::empty_session();
+    let mut session = runs::empty_session();
     let mut input = io::large_buffer();
     let mut output = io::large_buffer();
     let play = listed(&mut session, &mut input, &mut output);

@@ -13,8 +13,8 @@ use Rattle.standing.specs.Ordered.{Ordered}
 use Rattle.standing.specs.Standing.{bytesLeft, session}
 use Rattle.standing.proofs.OrderedLaws.{ordered-from-start}
 use Rattle.standing.proofs.Theorem.{demand3-from-start}
-use Rattle.recording.specs.Records.{callOf}
-use Rattle.recording.specs.Running.{isRun, bytesAfterRecord}
+use Rattle.records.specs.Form.{isRun, callOf}
+use Rattle.recording.specs.Running.{bytesAfterRecord}
 use Rattle.host.specs.Mixed.{Did, called, ran, leftBy, leftByAll, callsBy}
 
 -- a record, by whether it is run

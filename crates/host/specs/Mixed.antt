@@ -5,8 +5,8 @@ use Prim.Native.Nat.{ℕ}
 use Rattle.replay.specs.Demand3.{Call}
 use Rattle.rules.specs.Rules.{Op}
 use Rattle.standing.specs.Standing.{bytesLeft}
-use Rattle.recording.specs.Records.{callOf}
-use Rattle.recording.specs.Running.{isRun, bytesAfterRecord}
+use Rattle.records.specs.Form.{isRun, callOf}
+use Rattle.recording.specs.Running.{bytesAfterRecord}
 
 -- a call, or a record that is run where so many came before
 pub data Did : Type 0 where

@@ -3,5 +3,5 @@
 pub mod operations;
 pub mod questions;
 pub mod radio;
-pub mod records;
+pub mod recorded;
 pub mod told;

@@ -8,13 +8,14 @@ use borrow.Author.Tests.{ne-eqb}
 use lib.Dec.{eqb}
 use lib.ListN.{length, drop, length-drop}
 use Rattle.lines.specs.Text.{endLine}
-use Rattle.recording.specs.Records.{recordLength}
-use Rattle.recording.specs.Running.{mostRecords, isRun, notRun, ranRecord, bytesAfterRecord}
-use Rattle.recording.specs.declared.running.Ran.{Ran}
-use Rattle.recording.proofs.FormLaws.{record-head}
-use Rattle.recording.proofs.RunLaws.{not-run, not-run-used, run-used, run-kind, run-few, run-whole}
-use Rattle.listing.specs.Listing.{ranIn, ranAll, textOf, linesOf, oneIfAccepted, acceptedOf, listedFrom}
-use Rattle.listing.specs.Turns.{isLast, left}
+use Rattle.records.specs.Form.{mostRecords, recordLength, isRun}
+use Rattle.records.specs.Told.{notRun}
+use Rattle.records.specs.declared.told.Ran.{Ran}
+use Rattle.records.proofs.FormLaws.{record-head, run-few, run-whole}
+use Rattle.turns.specs.Turns.{textOf, oneIfAccepted, isLast}
+use Rattle.recording.specs.Running.{ranRecord, bytesAfterRecord}
+use Rattle.recording.proofs.RunLaws.{not-run, not-run-used, run-used, run-kind}
+use Rattle.listing.specs.Listing.{ranIn, ranAll, linesOf, acceptedOf, listedFrom, left}
 
 -- ---- the bound on the number of records is no bound where it is at least the bytes held
 
@@ -144,12 +145,3 @@ module _ (bs held : List ℕ) (before : ℕ) where
       of false e =
           let z : _≡_ {A = ℕ} 0 1 = cc (ap isLast (not-run bs held before e .0), h) in
           absurd (omega arith)
-
--- a record counts as one at most
-pub one-most : (r : Ran) → oneIfAccepted r ≤ 1
-unfolding oneIfAccepted
-one-most r = of (eqb (r .answer) 0)
-  where
-    of : (b : Bool) → cond b 1 0 ≤ 1
-    of true = omega arith
-    of false = omega arith

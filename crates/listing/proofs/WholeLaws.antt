@@ -10,14 +10,17 @@ use lib.Seq.{take-all, drop-drop}
 use Rattle.lines.specs.Line.{room}
 use Rattle.lines.specs.Text.{runLine, endLine}
 use Rattle.recording.specs.Recorded.{emptySession}
-use Rattle.recording.specs.Running.{mostRecords, ranRecord, bytesAfterRecord}
-use Rattle.recording.specs.declared.running.Ran.{Ran}
-use Rattle.listing.specs.Listing.{textOf, oneIfAccepted, listedFrom, listing}
-use Rattle.listing.specs.Turns.{putAt, isLast, turnOf, left}
-use Rattle.listing.specs.declared.turns.Turn.{Turn}
+use Rattle.recording.specs.Running.{ranRecord, bytesAfterRecord}
+use Rattle.records.specs.Form.{mostRecords}
+use Rattle.records.specs.declared.told.Ran.{Ran}
+use Rattle.turns.specs.Placing.{putAt}
+use Rattle.turns.specs.Turns.{textOf, oneIfAccepted, isLast, turnOf}
+use Rattle.turns.specs.declared.Turn.{Turn}
+use Rattle.turns.proofs.PlacingLaws.{put-none, put-put, put-nothing}
+use Rattle.turns.proofs.TurnLaws.{one-most}
+use Rattle.listing.specs.Listing.{listedFrom, listing, left}
 use Rattle.listing.specs.Whole.{outputTooSmall, listedInto, IsPutFrom}
-use Rattle.listing.proofs.ListingLaws.{turned, ended, used-inside, not-last, one-most}
-use Rattle.listing.proofs.PlacingLaws.{put-none, put-put, put-nothing}
+use Rattle.listing.proofs.ListingLaws.{turned, ended, used-inside, not-last}
 
 -- what stands from an offset on, as a part that is lent
 abbrev rest : List ℕ → ℕ → List ℕ

@@ -1,15 +1,15 @@
 -- THE LISTING of a recording: from the empty session the records are run one after another, each gets its line, and a record that is not run is
 -- the last.
-use mathlib.Core.Bool.{cond}
+use mathlib.Core.Bool.{Bool, cond}
 use mathlib.Core.List.{List, [], _∷_, _++_}
 use Prim.Native.Nat.{ℕ, zero, suc, _+_}
-use lib.Dec.{eqb}
 use lib.ListN.{length, drop}
-use Rattle.lines.specs.Text.{runLine, recordLine, endLine}
-use Rattle.recording.specs.Records.{recordLength}
+use Rattle.lines.specs.Text.{runLine, endLine}
+use Rattle.records.specs.Form.{recordLength, isRun}
+use Rattle.records.specs.declared.told.Ran.{Ran}
+use Rattle.turns.specs.Turns.{textOf, oneIfAccepted}
 use Rattle.recording.specs.Recorded.{emptySession}
-use Rattle.recording.specs.Running.{isRun, ranRecord, bytesAfterRecord}
-use Rattle.recording.specs.declared.running.Ran.{Ran}
+use Rattle.recording.specs.Running.{ranRecord, bytesAfterRecord}
 
 -- what the records come to that are held, the first one first, run on a session where so many came before. The bound is on the number of
 -- records: as many as there are bytes is always enough
@@ -26,18 +26,10 @@ ranIn (suc most) bs (b ∷ more) before =
 abbrev pub ranAll : List ℕ → List ℕ → ℕ → List Ran
 ranAll bs held before = ranIn (length held) bs held before
 
--- the line of a record
-abbrev pub textOf : Ran → List ℕ
-textOf r = recordLine (r .number) (r .kind) (r .answer) (r .first) (r .second) (r .third)
-
 -- a line for each
 unfoldable pub linesOf : List Ran → List ℕ
 linesOf [] = []
 linesOf (r ∷ rs) = textOf r ++ linesOf rs
-
--- 1 for a record that was accepted, 0 for one that was refused
-unfoldable pub oneIfAccepted : Ran → ℕ
-oneIfAccepted r = cond (eqb (r .answer) 0) 1 0
 
 -- the records that were accepted
 unfoldable pub acceptedOf : List Ran → ℕ
@@ -52,3 +44,7 @@ listedFrom bs held lines accepted =
 -- THE LISTING of a recording
 unfoldable pub listing : List ℕ → List ℕ
 listing input = runLine ++ listedFrom emptySession input 0 0
+
+-- what is still to be listed between two turns; once it is over, the last line
+unfoldable pub left : Bool → List ℕ → List ℕ → ℕ → ℕ → List ℕ
+left over bs held lines accepted = cond over (endLine lines accepted) (listedFrom bs held lines accepted)

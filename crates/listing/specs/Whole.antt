@@ -6,7 +6,7 @@ use Prim.Native.Nat.{ℕ, _+_, _≤_}
 use lib.Dec.{leb}
 use lib.ListN.{length}
 use Rattle.listing.specs.Listing.{listing}
-use Rattle.listing.specs.Turns.{putAt}
+use Rattle.turns.specs.Placing.{putAt}
 use Rattle.listing.specs.declared.whole.Listed.{Listed}
 
 -- THE GROUND of the only refusal: the output is too small for the listing

@@ -1,4 +1,3 @@
-// A recording's listing: a line for each turn, and the whole of it.
-mod placing;
-pub mod turns;
+// A recording's listing: its records run one after another, a line for each, and a recording lent whole listed into a lent output.
+pub mod runs;
 pub mod whole;

@@ -1,11 +1,11 @@
 // A recording lent whole, listed into a lent output.
-use crate::turns;
+use crate::runs;
 ghost use mathlib.Core.Path.{_≡_};
 ghost use Prim.Native.Nat.{_≤_};
 ghost use lib.ListN.{length};
 ghost use Rattle.lines.specs.Line.{room};
 ghost use Rattle.listing.specs.Listing.{listedFrom, listing};
-ghost use Rattle.listing.specs.Turns.{putAt};
+ghost use Rattle.turns.specs.Placing.{putAt};
 ghost use Rattle.listing.specs.Whole.{listedInto, IsPutFrom};
 
 // The only refusal: the output is too small for the listing.
@@ -28,7 +28,7 @@ fn put_records(recording: &[u8], session: &mut [u8], output: &mut [u8], from: us
     let mut accepted: u64 = 0;
     let mut over = false;
     while !over && at < recording.len() {
-        let turn = turns::next(session, &recording[at..], lines as u32, output, written);
+        let turn = runs::next(session, &recording[at..], lines as u32, output, written);
         at += turn.used;
         written += turn.length;
         lines += 1;
@@ -42,7 +42,7 @@ fn put_records(recording: &[u8], session: &mut [u8], output: &mut [u8], from: us
 fn put_all(recording: &[u8], output: &mut [u8]) -> usize
     ensures { λ r. ⌜ IsPutFrom (listing (now (recording .entry))) 0 (now (output .entry)) (now (output .exit)) r ⌝ }
 {
-    let mut session = turns::empty_session();
+    let mut session = runs::empty_session();
     let first = turns::begin(output, 0);
     put_records(recording, &mut session, output, first)
 }

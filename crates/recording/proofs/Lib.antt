@@ -1,6 +1,4 @@
-pub mod KindLaws
 pub mod CallLaws
-pub mod FormLaws
 pub mod GroundLaws
 pub mod RunLaws
 pub mod RecordLaws

@@ -11,8 +11,8 @@ use Rattle.session.specs.Answers.{startAfter}
 use Rattle.standing.specs.Calls.{history, bytesAfterAll}
 use Rattle.standing.specs.Standing.{bytesLeft, session}
 use Rattle.standing.proofs.Theorem.{started-is, demand3-from-start}
-use Rattle.recording.specs.Records.{recordLength, callOf}
-use Rattle.recording.specs.Running.{isRun, bytesAfterRecord}
+use Rattle.records.specs.Form.{recordLength, isRun, callOf}
+use Rattle.recording.specs.Running.{bytesAfterRecord}
 use Rattle.recording.specs.Recorded.{zeros, emptySession, callsIn, leftBy, recordedCalls, sessionAfter}
 
 started : (bs : List ℕ) → length bs ≡ sessionBytes → startAfter bs ≡ zeros (length bs)

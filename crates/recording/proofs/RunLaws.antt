@@ -2,10 +2,7 @@
 use mathlib.Core.Bool.{Bool, true, false, cond}
 use mathlib.Core.Path.{_≡_, refl, sym, ap, _∙_}
 use mathlib.Core.List.{List}
-use Prim.Native.Nat.{ℕ, _≤_, _<_}
-use borrow.Author.Tests.{ltb-true}
-use lib.Dec.{ltb}
-use lib.ListN.{length}
+use Prim.Native.Nat.{ℕ}
 use Rattle.replay.specs.Demand3.{Call, op, back}
 use Rattle.rules.specs.Rules.{Op}
 use Rattle.rules.specs.Refusals.{badRecord}
@@ -15,12 +12,12 @@ use Rattle.session.proofs.AfterLaws.{refused-bytes, refused-back}
 use Rattle.standing.specs.Said.{answerBy}
 use Rattle.standing.proofs.SaidLaws.{said-refused, said-whole}
 use Rattle.standing.specs.Standing.{answered, bytesLeft}
-use Rattle.recording.specs.Records.{kindOf, recordLength, isRecord, callOf}
-use Rattle.recording.specs.Running.{mostRecords, isRun, notRun, runWith, ranRecord, bytesAfterRecord}
-use Rattle.recording.specs.declared.running.Ran.{Ran}
-use Rattle.numbers.proofs.Logic.{both}
+use Rattle.records.specs.Form.{kindOf, recordLength, isRun, callOf}
+use Rattle.records.specs.Told.{notRun, runWith}
+use Rattle.records.specs.declared.told.Ran.{Ran}
+use Rattle.records.proofs.FormLaws.{record-kind, run-record}
+use Rattle.recording.specs.Running.{ranRecord, bytesAfterRecord}
 use Rattle.recording.proofs.GroundLaws.{answered-other}
-use Rattle.recording.proofs.FormLaws.{record-whole, record-kind}
 use Rattle.recording.proofs.CallLaws.{Called}
 
 -- what a call answers that is refused
@@ -33,20 +30,6 @@ same : (bs : List ℕ) (c : Call Op) → (answered bs c .answer ≡ 0 → ⊥) �
 unfolding answered bytesLeft
 same bs (op o) h = refused-bytes bs o h
 same bs (back k) h = refused-back bs k h
-
-module _ (held : List ℕ) (before : ℕ) where
-  -- a record that is run is whole
-  pub run-record : isRun held before ≡ true → isRecord held ≡ true
-  unfolding isRun
-  run-record e = both (ltb before mostRecords) (isRecord held) e .1
-
-  -- and not past the last
-  pub run-few : isRun held before ≡ true → before < mostRecords
-  unfolding isRun
-  run-few e = ltb-true before mostRecords (both (ltb before mostRecords) (isRecord held) e .0)
-
-  pub run-whole : isRun held before ≡ true → recordLength held ≤ length held
-  run-whole e = record-whole held (run-record e)
 
 -- what running tells, where it is known whether the record is run
 abbrev ranIf : Bool → List ℕ → List ℕ → ℕ → Ran

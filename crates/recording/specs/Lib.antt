@@ -1,4 +1,2 @@
-pub mod Kinds
-pub mod Records
 pub mod Running
 pub mod Recorded

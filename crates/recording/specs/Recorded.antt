@@ -6,8 +6,8 @@ use lib.ListN.{length, drop, replicate}
 use Rattle.replay.specs.Demand3.{Call}
 use Rattle.rules.specs.Rules.{Op}
 use Rattle.store.specs.Layout.{sessionBytes}
-use Rattle.recording.specs.Records.{recordLength, callOf}
-use Rattle.recording.specs.Running.{isRun, bytesAfterRecord}
+use Rattle.records.specs.Form.{recordLength, isRun, callOf}
+use Rattle.recording.specs.Running.{bytesAfterRecord}
 
 -- so many zeros
 unfoldable pub zeros : ℕ → List ℕ

@@ -1,64 +1,29 @@
 // One record run on a lent session.
-use crate::calls;
-use crate::records;
-use rules::refusals;
+use records::asked;
+use records::asked::Asked;
+use records::form;
+use records::told::Ran;
 use rules::ruling::Answer;
+use session::operations;
 ghost use mathlib.Core.Path.{_≡_};
-ghost use Rattle.recording.specs.Records.{longest};
-ghost use Rattle.recording.specs.Running.{isRun, notRun, runWith, ranRecord, bytesAfterRecord};
+ghost use Rattle.standing.specs.Standing.{answered, bytesLeft};
+ghost use Rattle.records.specs.Asked.{meantBy};
+ghost use Rattle.recording.specs.Running.{ranRecord, bytesAfterRecord};
 
-// The bytes of the longest record: a reader that holds so many holds enough.
-pub const LONGEST: usize = 101;
-
-// A recording has at most so many records.
-pub const MOST_RECORDS: u32 = 4294967295;
-
-// What running a record tells: its line's six numbers, and the bytes that it used.
-#[repr(C)]
-pub struct Ran {
-    pub number: u64,
-    pub kind: u32,
-    pub answer: u32,
-    pub first: u32,
-    pub second: u32,
-    pub third: u32,
-    pub used: u32,
-}
-
-impl Ran {
-    fn run_with(before: u32, kind: u32, length: u32, answer: Answer) -> Ran
-        ensures { λ r. ⌜ r ≡ runWith before kind length answer ⌝ }
-    {
-        Ran {
-            number: before as u64 + 1,
-            kind,
-            answer: answer.answer,
-            first: answer.first,
-            second: answer.second,
-            third: answer.third,
-            used: length,
+// The call that a record asks for is made.
+fn make(session: &mut [u8], asked: Asked, flags: &[u8]) -> Answer
+    ensures { λ r. ⌜ r ≡ answered (now (session .entry)) (meantBy asked (now (flags .entry))) ⌝ }
+    ensures { λ _. ⌜ now (session .exit) ≡ bytesLeft (now (session .entry)) (meantBy asked (now (flags .entry))) ⌝ }
+{
+    match asked {
+        Asked::Request(loco, bytes) => operations::request(session, loco, bytes),
+        Asked::Release(loco, ticket) => operations::release(session, loco, ticket),
+        Asked::On(loco, ticket, deed) => operations::on(session, loco, ticket, deed, flags),
+        Asked::Sos(loco2, ticket2, loco1, ticket1, grid) => {
+            operations::sos(session, loco2, ticket2, loco1, ticket1, grid)
         }
+        Asked::StepBack(k) => operations::step_back(session, k),
     }
-
-    fn not_run(before: u32) -> Ran
-        ensures { λ r. ⌜ r ≡ notRun before ⌝ }
-    {
-        Ran::run_with(before, 0, 0, Answer::refused(refusals::BAD_RECORD))
-    }
-}
-
-// The bytes that a reader needs to hold, for a host that asks.
-pub fn longest_record() -> usize
-    ensures { λ r. ⌜ r ≡ longest ⌝ }
-{
-    LONGEST
-}
-
-// Does `held` begin with a record that is run, where `before` records came before it?
-fn is_run(held: &[u8], before: u32) -> bool
-    ensures { λ r. ⌜ r ≡ isRun (now (held .entry)) before ⌝ }
-{
-    before < MOST_RECORDS && records::is_record(held)
 }
 
 // Runs the first record of `held`, where `before` records came before it. What follows the record is not read. Where `held` begins with no whole
@@ -67,13 +32,16 @@ pub fn run(session: &mut [u8], held: &[u8], before: u32) -> Ran
     ensures { λ r. ⌜ r ≡ ranRecord (now (session .entry)) (now (held .entry)) before ⌝ }
     ensures { λ _. ⌜ now (session .exit) ≡ bytesAfterRecord (now (session .entry)) (now (held .entry)) before ⌝ }
 {
-    if !is_run(held, before) {
+    if !form::is_run(held, before) {
         return Ran::not_run(before);
     }
-    let kind = records::kind_of(held);
-    let length = records::record_length(held);
-    let start = records::HEAD as usize;
-    let end = length as usize;
-    let answer = calls::make(session, kind, &held[start..end]);
+    let kind = form::kind_of(held);
+    let length = form::record_length(held);
+    let payload = &held[form::HEAD as usize..length as usize];
+    let answer = make(
+        session,
+        asked::asked_by(kind, payload),
+        asked::flags_in(payload),
+    );
     Ran::run_with(before, kind, length, answer)
 }

@@ -5,7 +5,7 @@ use native.Mathlib.Omega.{arith}
 use lib.ListN.{length, take}
 use borrow.Author.Needs.{needs}
 use borrow.Author.Tests.{lt-ltb, le-ltb}
-use Rattle.recording.specs.Records.{longest}
+use Rattle.records.specs.Form.{longest}
 use Rattle.bench.proofs.HeldLaws.{read-keeps}
 use Rattle.bench.proofs.held.read_on.Statement.{statement}
 use Rattle.bench.proofs.held.read_on.Tie as tie

@@ -3,7 +3,7 @@ use mathlib.Core.Path.{_≡_}
 use Prim.Native.Nat.{ℕ}
 use native.Mathlib.Omega.{arith}
 use borrow.Author.Needs.{needs}
-use Rattle.recording.specs.Records.{longest}
+use Rattle.records.specs.Form.{longest}
 use Rattle.bench.proofs.HeldLaws.{within-enough, read-ready, stays-ready}
 use Rattle.bench.proofs.held.ready.Statement.{statement}
 use Rattle.bench.proofs.held.ready.Tie as tie

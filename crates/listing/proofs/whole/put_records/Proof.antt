@@ -6,7 +6,7 @@ use native.Mathlib.Omega.{arith}
 use lib.ListN.{length}
 use borrow.Author.Needs.{needs}
 use borrow.Author.Tests.{ltb-true, ltb-false, not-true, not-false}
-use Rattle.recording.specs.Running.{mostRecords}
+use Rattle.records.specs.Form.{mostRecords}
 use Rattle.listing.specs.Listing.{listedFrom}
 use Rattle.listing.proofs.WholeLaws.{Reached, reached-first, reached-next, reached-end}
 use Rattle.listing.proofs.whole.put_records.Statement.{statement}

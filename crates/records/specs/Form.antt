@@ -1,0 +1,59 @@
+-- The form of a record: the mark, the kind, the payload's length and the payload. What follows a record
+-- is not read.
+use mathlib.Core.Bool.{Bool, _&&_}
+use mathlib.Core.List.{List}
+use Prim.Native.Nat.{ℕ, _+_, _*_}
+use lib.Dec.{eqb, leb, ltb}
+use lib.ListN.{length, take, drop}
+use Rattle.numbers.specs.Numbers.{numberAt}
+use Rattle.replay.specs.Demand3.{Call}
+use Rattle.rules.specs.Rules.{Op}
+use Rattle.records.specs.Kinds.{payloadLength, callBy}
+
+-- the mark 4B 56
+abbrev pub mark : ℕ
+mark = 75 * 256 + 86
+
+-- the bytes before the payload
+abbrev pub headBytes : ℕ
+headBytes = 4
+
+-- the bytes of the longest record
+abbrev pub longest : ℕ
+longest = 101
+
+-- a recording has at most so many records
+abbrev pub mostRecords : ℕ
+mostRecords = 4294967295
+
+-- the number of the kind, behind the mark
+abbrev pub kindOf : List ℕ → ℕ
+kindOf held = numberAt 1 held 2
+
+-- the length of the payload, as the record says it
+abbrev pub saidLength : List ℕ → ℕ
+saidLength held = numberAt 1 held 3
+
+-- the length of a whole record of this kind
+unfoldable pub recordLength : List ℕ → ℕ
+recordLength held = headBytes + payloadLength (kindOf held)
+
+-- the bytes begin with a whole record: the mark, a kind, that kind's length, and every byte is there
+unfoldable pub isRecord : List ℕ → Bool
+isRecord held =
+    eqb (numberAt 2 held 0) mark
+    && ltb 0 (payloadLength (kindOf held))
+    && eqb (saidLength held) (payloadLength (kindOf held))
+    && leb (recordLength held) (length held)
+
+-- and a record that is run, where so many records came before
+unfoldable pub isRun : List ℕ → ℕ → Bool
+isRun held before = ltb before mostRecords && isRecord held
+
+-- its payload
+unfoldable pub payloadOf : List ℕ → List ℕ
+payloadOf held = take (payloadLength (kindOf held)) (drop headBytes held)
+
+-- THE CALL that a whole record makes
+unfoldable pub callOf : List ℕ → Call Op
+callOf held = callBy (kindOf held) (payloadOf held)

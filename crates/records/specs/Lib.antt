@@ -1,0 +1,4 @@
+pub mod Kinds
+pub mod Form
+pub mod Asked
+pub mod Told
