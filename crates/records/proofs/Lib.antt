@@ -1,3 +1,4 @@
 pub mod KindLaws
 pub mod FormLaws
 pub mod FrontLaws
+pub mod AskedLaws

@@ -7,7 +7,7 @@ use native.Mathlib.Omega.{arith}
 use borrow.Author.Tests.{le-leb, lt-leb}
 use lib.Dec.{leb}
 use lib.ListN.{length, take, drop, replicate, length-append, length-drop, take-append-drop}
-use lib.Seq.{paste, take-append-seam, take-at, drop-at, drop-drop, length-take-le}
+use lib.Seq.{sets, sets-eq, take-append-seam, take-at, drop-at, drop-drop, length-take-le}
 use Rattle.lines.specs.Line.{room, lineOf, IsLineOf}
 use Rattle.lines.specs.declared.line.Line.{Line}
 use Rattle.turns.specs.Placing.{putAt}
@@ -39,19 +39,15 @@ line-length line text h = ap (λ (l : Line). l .len) (h .0)
 pub line-size : (line : Line) (text : List ℕ) → IsLineOf line text → (line .len ≡ length text) × (line .len ≤ room)
 line-size line text h = (line-length line text h, omega (arith, line-length line text h, h .1))
 
--- so a line's bytes, pasted, are its text put
-pub line-pasted : (output : List ℕ) (at : ℕ) (line : Line) (after text : List ℕ) → at + line .len ≤ length output
-    → (line .len ≤ length (line .bytes) → after ≡ paste output at (line .bytes) (line .len)) → IsLineOf line text → after ≡ putAt output at text
+-- so a line's bytes, copied, are its text put
+pub line-copied : (output : List ℕ) (at : ℕ) (line : Line) (after text : List ℕ) → at + line .len ≤ length output
+    → after ≡ sets output at (take (line .len) (line .bytes)) → IsLineOf line text → after ≡ putAt output at text
 unfolding lineOf
-line-pasted output at line after text fits put h =
-    let zeros : List ℕ = replicate (room - length text) 0 in
-    let len : line .len ≡ length text = line-length line text h in
-    let bytes : line .bytes ≡ text ++ zeros = ap (λ (l : Line). l .bytes) (h .0) in
-    let inside : line .len ≤ length (line .bytes) = rw (bytes, length-append) (omega arith) in
-    put inside
-    ∙ (λ i. paste output at (bytes i) (len i))
-    ∙ ap (λ (s : List ℕ). take at output ++ s ++ drop (at + length text) output) (take-append-seam text zeros)
-    ∙ sym (put-fits output at text (omega arith))
+line-copied output at line after text fits copied h =
+    let bytes : take (line .len) (line .bytes) ≡ text =
+    (λ i. take (line-length line text h i) (h .0 i .bytes)) ∙ take-append-seam text (replicate (room - length text) 0) in
+    let fit : at + length text ≤ length output = omega (arith, line-length line text h) in
+    copied ∙ ap (sets output at) bytes ∙ sets-eq text output at fit ∙ sym (put-fits output at text fit)
 
 -- a text, and another behind it, are the two as one text
 pub put-put : (output : List ℕ) (at : ℕ) (s t : List ℕ) → at + length (s ++ t) ≤ length output

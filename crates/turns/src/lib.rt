@@ -44,9 +44,7 @@ pub fn begin(output: &mut [u8], at: usize) -> usize
     ensures { λ r. ⌜ (r ≡ length runLine) × (r ≤ room) ⌝ }
     ensures { λ _. ⌜ now (output .exit) ≡ putAt (now (output .entry)) at runLine ⌝ }
 {
-    let line = lines::run_line();
-    placing::put(output, at, line);
-    line.len
+    placing::put(output, at, lines::run_line())
 }
 
 // The line of a record that was run.
@@ -54,10 +52,9 @@ pub fn take(ran: Ran, output: &mut [u8], at: usize) -> Turn
     ensures { λ r. ⌜ (r ≡ turnOf ran) × (r .length ≤ room) ⌝ }
     ensures { λ _. ⌜ now (output .exit) ≡ putAt (now (output .entry)) at (textOf ran) ⌝ }
 {
-    let line = line_of(ran);
-    placing::put(output, at, line);
+    let length = placing::put(output, at, line_of(ran));
     Turn {
-        length: line.len,
+        length,
         used: ran.used as usize,
         accepted: accepted_by(ran),
         last: ran.kind == 0,
@@ -69,7 +66,5 @@ pub fn end(output: &mut [u8], at: usize, lines: u64, accepted: u64) -> usize
     ensures { λ r. ⌜ (r ≡ length (endLine lines accepted)) × (r ≤ room) ⌝ }
     ensures { λ _. ⌜ now (output .exit) ≡ putAt (now (output .entry)) at (endLine lines accepted) ⌝ }
 {
-    let line = lines::end_line(lines, accepted);
-    placing::put(output, at, line);
-    line.len
+    placing::put(output, at, lines::end_line(lines, accepted))
 }

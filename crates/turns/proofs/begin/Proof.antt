@@ -1,15 +1,11 @@
 -- `turns::begin` meets its contract.
 use borrow.Author.Needs.{needs}
 use Rattle.lines.specs.Text.{runLine}
-use Rattle.turns.proofs.PlacingLaws.{line-size}
 use Rattle.turns.proofs.begin.Statement.{statement}
 use Rattle.turns.proofs.begin.Tie as tie
 
 returns : tie.Need-returns
-returns c =
-    let put = c .before .before in
-    let line = put .before .before .run-line in
-    (line-size (line .result) runLine (line .ensures), put .put .ensures runLine (line .ensures))
+returns c = let put = c .before .before in put .put .ensures runLine (put .before .run-line .ensures)
 
 pub begin-spec : {M : Type 1} → statement M
 begin-spec = tie.close (tie.spec (λ c κs. search needs) (λ c κs. search needs) (λ c. search needs) returns)

@@ -1,7 +1,6 @@
 -- `turns::take` meets its contract.
 use borrow.Author.Needs.{needs}
 use Rattle.turns.specs.Turns.{textOf, isLast, turnOf}
-use Rattle.turns.proofs.PlacingLaws.{line-size}
 use Rattle.turns.proofs.take.Statement.{statement}
 use Rattle.turns.proofs.take.Tie as tie
 
@@ -9,14 +8,13 @@ returns : tie.Need-returns
 unfolding turnOf
 returns c =
     let put = c .before .before .before .before .before in
-    let made = put .before .before in
-    let ran = made .before .before .args .ran in
-    let size = line-size (made .line-of .result) (textOf ran) (made .line-of .ensures) in (
+    let ran = put .before .before .before .before .args .ran in
+    let says = put .put .ensures (textOf ran) (put .before .line-of .ensures) in (
       (
-        λ i. record { length = size .0 i; used = ran .used; accepted = c .before .accepted-by .ensures i; last = isLast ran },
-        size .1,
+        λ i. record { length = says .0 .0 i; used = ran .used; accepted = c .before .accepted-by .ensures i; last = isLast ran },
+        says .0 .1,
       ),
-      put .put .ensures (textOf ran) (made .line-of .ensures),
+      says .1,
     )
 
 pub take-spec : {M : Type 1} → statement M
