@@ -1,21 +1,19 @@
 -- Laws of a step back: the view is the newest entries undone, the log has them off, the counter stays.
 use Prim.Native.Nat.{ℕ, zero, suc, _+_, _*_, _-_, _%_, _≤_, _<_}
 use mathlib.Core.List.{List, [], _∷_}
-use mathlib.Core.Logic.{⊎-elim, inr}
+use mathlib.Core.Logic.{inr}
 use mathlib.Core.Path.{_≡_, refl, sym, ap, _∙_}
 use native.Mathlib.Nat.{mod-eq-of-lt}
 use native.Mathlib.Omega.{arith}
 use lib.ListN.{length, take, drop}
 use Rattle.numbers.specs.Numbers.{numberAt}
-use Rattle.numbers.proofs.FieldLaws.{lt-or-le}
 use Rattle.numbers.proofs.NumberLaws.{number-lt}
 use Rattle.replay.specs.Demand3.{depth}
 use Rattle.replay.specs.Ring.{before, readBack}
 use Rattle.replay.proofs.Rings.{before-in, ring-same}
-use Rattle.rows.specs.Row.{rowBytes, rowAt}
-use Rattle.rules.specs.Effect.{markFor, noChange}
+use Rattle.rows.specs.Row.{rowBytes}
 use Rattle.rules.specs.View.{View}
-use Rattle.store.specs.Layout.{wordBytes, counterAt, keptAt, bookAt, logAt, rowOffset, keptRowBytes, entryBytes, entryOffset, slotsAt, changedAt, alsoAt, sessionBytes}
+use Rattle.store.specs.Layout.{wordBytes, counterAt, keptAt, bookAt, entryOffset}
 use Rattle.store.specs.Lent.{Lent}
 use Rattle.store.specs.Stands.{viewOf, counterOf, keptOf, headOf}
 use Rattle.store.proofs.Frames.{Changes, lent-after}
@@ -23,77 +21,14 @@ use Rattle.store.proofs.RegisterLaws.{view-stays}
 use Rattle.store.proofs.ViewLaws.{head-in, kept-in, entry-room}
 use Rattle.trains.specs.Kinds.{lastSlot}
 use Rattle.trains.specs.Sought.{rowCount}
-use Rattle.ledger.specs.Back.{rowBack, entryBack, stepped, steppedBy}
-use Rattle.ledger.specs.Log.{Entry, undone, changeAt, entryAt, entryIn, logOf}
-use Rattle.ledger.specs.Runs.{runMarked, runAt}
-use Rattle.ledger.specs.Settled.{headed}
-use Rattle.ledger.proofs.CopyLaws.{copied-changes, copied-row, row-copied, row-passed}
-use Rattle.ledger.proofs.EntryLaws.{mark-byte, change-stays, entry-stays, change-there, change-none}
+use Rattle.entries.specs.Entry.{Entry, undone}
+use Rattle.entries.specs.Undone.{entryBack}
+use Rattle.entries.proofs.EntryLaws.{entry-stays}
+use Rattle.entries.proofs.UndoneLaws.{entry-back-changes, entry-back-view}
+use Rattle.ledger.specs.Back.{stepped, steppedBy}
+use Rattle.ledger.specs.Log.{entryIn, logOf, headed}
 use Rattle.ledger.proofs.HeaderLaws.{word-small, headed-changes, headed-counter, headed-kept, headed-head}
-use Rattle.ledger.proofs.MarkLaws.{book-changes}
-use Rattle.ledger.proofs.PutLaws.{RowPut, row-put, row-unput, put-changes, put-view}
-
--- ---- a row put back
-
--- it is copied from the entry
-pub copied-back : (s : List ℕ) (at : ℕ) → Lent s → logAt ≤ at → at + keptRowBytes ≤ sessionBytes → RowPut s (rowBack s at) (changeAt s at)
-unfolding rowBack
-copied-back s at lent lo hi =
-    let i : ℕ = numberAt 1 s at in
-    let from : at + 1 + rowBytes ≤ length s = omega (arith, lent .size) in
-    ⊎-elim
-    (λ l.
-    rw (row-copied s i (at + 1) (rowOffset i) l, change-there s at i refl l)
-    (row-put i (rowAt s (at + 1)) lent l (copied-changes s rowBytes (at + 1) (rowOffset i) (lent .bytes) from)
-    (copied-row s (at + 1) (rowOffset i) from (omega (arith, lent .size)))))
-    (λ l. rw (row-passed s i (at + 1) (rowOffset i) l, change-none s at i refl l) (row-unput s noChange lent (omega arith)))
-    (lt-or-le i rowCount)
-
--- ---- an entry undone
-
-module _ (s : List ℕ) (lent : Lent s) (p : ℕ) (l : p < depth) where
-  at : ℕ
-  at = entryOffset p
-
-  room : at + entryBytes ≤ sessionBytes
-  unfolding at
-  room = entry-room p l
-
-  behind : logAt ≤ at
-  unfolding at
-  behind = omega arith
-
-  run : List ℕ
-  run = runMarked s (runAt s at)
-
-  run-change : Changes s run bookAt lastSlot
-  unfolding run runMarked
-  run-change =
-      book-changes s (numberAt 1 s at) (numberAt 1 s (slotsAt at)) (markFor (runAt s at .taken)) (lent .bytes) (omega (arith, lent .size)) (mark-byte (runAt s at .taken))
-
-  lent-run : Lent run
-  lent-run = lent-after lent run-change
-
-  first-back : RowPut run (rowBack run (changedAt at)) (changeAt s (changedAt at))
-  first-back =
-      rw (← change-stays run-change (changedAt at) (inr (omega (arith, behind))))
-      (copied-back run (changedAt at) lent-run (omega (arith, behind)) (omega (arith, room)))
-
-  second-back : RowPut (rowBack run (changedAt at)) (entryBack s (entryOffset p)) (changeAt s (alsoAt at))
-  unfolding entryBack run at
-  second-back =
-      rw (← change-stays run-change (alsoAt at) (inr (omega (arith, behind))), ← change-stays (first-back .changes) (alsoAt at) (inr (omega (arith, behind))))
-      (copied-back (rowBack run (changedAt at)) (alsoAt at) (lent-after lent-run (first-back .changes)) (omega (arith, behind)) (omega (arith, room)))
-
-  -- only the book and the register change
-  pub entry-back-changes : Changes s (entryBack s (entryOffset p)) bookAt (lastSlot + rowBytes * rowCount)
-  unfolding run at entryAt
-  entry-back-changes = put-changes s lent (entryIn s p) first-back second-back
-
-  -- the view is the entry undone
-  pub entry-back-view : viewOf (entryBack s (entryOffset p)) ≡ undone (entryIn s p) (viewOf s)
-  unfolding run at entryAt
-  entry-back-view = put-view s lent (entryIn s p) first-back second-back
+use Rattle.ledger.proofs.LogLaws.{log-newest}
 
 -- ---- one step
 
@@ -110,7 +45,7 @@ module _ (s : List ℕ) (lent : Lent s) where
 
   undid-change : Changes s undid bookAt (lastSlot + rowBytes * rowCount)
   unfolding undid
-  undid-change = entry-back-changes s lent notch notch-in
+  undid-change = entry-back-changes s lent (entryOffset notch) (omega arith) (entry-room notch notch-in)
 
   lent-undid : Lent undid
   lent-undid = lent-after lent undid-change
@@ -141,7 +76,7 @@ module _ (s : List ℕ) (lent : Lent s) where
   stepped-view =
       ap viewOf stepped-is
       ∙ view-stays header-change (omega (arith, lent-undid .size)) (inr (omega arith))
-      ∙ entry-back-view s lent notch notch-in
+      ∙ entry-back-view s lent (entryOffset notch) (omega arith) (entry-room notch notch-in)
 
   -- the ticket counter stays
   pub stepped-counter : counterOf (stepped s) ≡ counterOf s
@@ -177,18 +112,6 @@ module _ (s : List ℕ) (lent : Lent s) where
   stepped-log =
       (λ k. readBack depth (entryIn (stepped s)) (stepped-head k) (stepped-kept k))
       ∙ ring-same depth (entryIn s) (entryIn (stepped s)) stepped-entry (keptOf s - 1) (before depth (headOf s)) notch-in
-
-newest-first : (entry : ℕ → Entry) (at n : ℕ) → 0 < n → readBack depth entry at n ≡ entry (before depth at) ∷ readBack depth entry (before depth at) (n - 1)
-unfolding readBack
-newest-first entry at zero h = absurd (omega arith)
-newest-first entry at (suc n) h =
-    let e : n ≡ suc n - 1 = omega arith in
-    ap (λ (m : ℕ). entry (before depth at) ∷ readBack depth entry (before depth at) m) e
-
--- the newest entry, and the others
-pub log-newest : (s : List ℕ) → 0 < keptOf s
-    → logOf s ≡ entryIn s (before depth (headOf s)) ∷ readBack depth (entryIn s) (before depth (headOf s)) (keptOf s - 1)
-log-newest s h = newest-first (entryIn s) (headOf s) (keptOf s) h
 
 -- the newest entry comes off the log
 pub stepped-drop : (s : List ℕ) → Lent s → 0 < keptOf s → logOf (stepped s) ≡ drop 1 (logOf s)

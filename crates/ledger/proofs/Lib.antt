@@ -1,9 +1,4 @@
-pub mod CopyLaws
-pub mod Sizes
-pub mod MarkLaws
 pub mod HeaderLaws
-pub mod EntryLaws
-pub mod PutLaws
 pub mod LogLaws
 pub mod SettledLaws
 pub mod BackLaws

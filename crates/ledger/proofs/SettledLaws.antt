@@ -5,33 +5,38 @@ use mathlib.Core.Logic.{⊎-elim, inl, inr, _≢_}
 use mathlib.Core.Path.{_≡_, refl, ap, _∙_}
 use native.Mathlib.Nat.{mod-eq-of-lt}
 use native.Mathlib.Omega.{arith}
+use borrow.Author.Tests.{lt-ltb, le-ltb}
 use lib.ListN.{length, take}
 use Rattle.numbers.specs.Numbers.{numberAt}
 use Rattle.numbers.proofs.FieldLaws.{lt-or-le}
 use Rattle.replay.specs.Demand3.{depth}
 use Rattle.replay.specs.Ring.{after, readBack}
 use Rattle.replay.proofs.Rings.{after-in, ring-push}
-use Rattle.rows.specs.Row.{rowBytes}
+use Rattle.rows.specs.Row.{rowBytes, putRow}
 use Rattle.rows.proofs.FitLaws.{Fits}
+use Rattle.rows.proofs.RowLaws.{row-back}
 use Rattle.rules.specs.Effect.{applied}
 use Rattle.rules.specs.View.{View}
+use Rattle.rules.specs.declared.effect.Change.{Change}
 use Rattle.rules.specs.declared.effect.Effect.{Effect}
-use Rattle.store.specs.Layout.{wordBytes, counterAt, keptAt, headAt, bookAt, entryBytes, entryOffset}
+use Rattle.store.specs.Layout.{wordBytes, counterAt, keptAt, headAt, bookAt, rowOffset, entryBytes, entryOffset}
 use Rattle.store.specs.Lent.{Lent}
 use Rattle.store.specs.Stands.{viewOf, counterOf, keptOf, headOf}
-use Rattle.store.proofs.Frames.{Clear, Changes, number-stays, lent-after}
+use Rattle.store.proofs.Frames.{Changes, number-stays, row-changes, lent-after}
 use Rattle.store.proofs.RegisterLaws.{view-stays}
-use Rattle.store.proofs.ViewLaws.{head-in, kept-in}
+use Rattle.store.proofs.ViewLaws.{head-in, kept-in, entry-room}
 use Rattle.trains.specs.Kinds.{lastSlot}
 use Rattle.trains.specs.Sought.{rowCount}
 use Rattle.trains.specs.declared.kinds.Ticket.{Ticket}
-use Rattle.ledger.specs.Log.{rowNow, saved, entryIn, logOf}
-use Rattle.ledger.specs.Runs.{runOf, runBefore, effectOf, runMarked}
-use Rattle.ledger.specs.Settled.{InBounds, entryKept, headed, changePut, pushed, effectPut, settled}
-use Rattle.ledger.specs.declared.runs.Run.{Run}
-use Rattle.ledger.proofs.EntryLaws.{entry-stays, entry-kept-changes, entry-kept-back}
+use Rattle.entries.specs.Entry.{saved}
+use Rattle.entries.specs.Kept.{InBounds, entryKept}
+use Rattle.entries.specs.Marks.{runMarked}
+use Rattle.entries.proofs.EntryLaws.{entry-stays, entry-kept-changes, entry-kept-back}
+use Rattle.entries.proofs.PutLaws.{RowPut, row-put, row-unput, lent-booked, put-changes, put-view}
+use Rattle.ledger.specs.Log.{entryIn, logOf, headed}
+use Rattle.ledger.specs.Settled.{changePut, pushed, effectPut, settled}
 use Rattle.ledger.proofs.HeaderLaws.{word-small, headed-changes, headed-counter, headed-kept, headed-head}
-use Rattle.ledger.proofs.PutLaws.{RowPut, written, lent-booked, put-changes, put-view}
+use Rattle.ledger.proofs.LogLaws.{entries-clear}
 
 -- an effect that fits the bytes: it can be taken in, and its trains fit the rows that they are put into
 pub record EffectFits (e : Effect) : Type 0 where
@@ -39,14 +44,32 @@ pub record EffectFits (e : Effect) : Type 0 where
   pub changed : Fits (e .changed .train)
   pub also : e .also .row < rowCount → Fits (e .also .train)
 
--- two entries of the ring have no byte in common
-pub entries-clear : (p q : ℕ) → p ≢ q → Clear (entryOffset p) entryBytes (entryOffset q) entryBytes
-entries-clear p q ne =
-    ⊎-elim (λ l. inl (omega arith)) (λ l. ⊎-elim (λ m. inr (omega arith)) (λ m. absurd (ne (omega arith))) (lt-or-le q p)) (lt-or-le p q)
+-- ---- a row written
+
+pub change-put : (s : List ℕ) (c : Change) → c .row < rowCount → changePut s c ≡ putRow s (rowOffset (c .row)) (c .train)
+unfolding changePut
+change-put s c l = rw (lt-ltb (c .row) rowCount l)
+
+pub change-passed : (s : List ℕ) (c : Change) → rowCount ≤ c .row → changePut s c ≡ s
+unfolding changePut
+change-passed s c l = rw (le-ltb (c .row) rowCount l)
+
+written : (s : List ℕ) (c : Change) → Lent s → (c .row < rowCount → Fits (c .train)) → RowPut s (changePut s c) c
+written s c lent f =
+    ⊎-elim
+    (λ l.
+    rw (change-put s c l)
+    (row-put (c .row) (c .train) lent l (row-changes s (rowOffset (c .row)) (c .train) (lent .bytes))
+    (row-back s (rowOffset (c .row)) (c .train) (f l) (omega (arith, lent .size)))))
+    (λ l. rw (change-passed s c l) (row-unput s c lent l))
+    (lt-or-le (c .row) rowCount)
 
 -- ---- the entry pushed
 
-module _ (s : List ℕ) (lent : Lent s) (counter : Ticket) (run : Run) (i j : ℕ) (hi : i ≤ rowCount) (hj : j ≤ rowCount) where
+module _ (s : List ℕ) (lent : Lent s) (counter : Ticket) (e : Effect) (bounds : InBounds e) where
+  logged : List ℕ
+  logged = pushed s counter (e .start) (e .slots) (e .taken) (e .changed .row) (e .also .row)
+
   p : ℕ
   p = headOf s
 
@@ -55,11 +78,11 @@ module _ (s : List ℕ) (lent : Lent s) (counter : Ticket) (run : Run) (i j : �
   p-in = head-in s
 
   noted : List ℕ
-  noted = entryKept s run i j (entryOffset p)
+  noted = entryKept s (e .start) (e .slots) (e .taken) (e .changed .row) (e .also .row) (entryOffset p)
 
   noted-change : Changes s noted (entryOffset p) entryBytes
   unfolding noted
-  noted-change = entry-kept-changes s lent run i j p hi hj p-in
+  noted-change = entry-kept-changes s lent e bounds (entryOffset p) (omega arith) (entry-room p p-in)
 
   lent-noted : Lent noted
   lent-noted = lent-after lent noted-change
@@ -74,18 +97,18 @@ module _ (s : List ℕ) (lent : Lent s) (counter : Ticket) (run : Run) (i j : �
   unfolding head
   head-below = after-in depth p p-in
 
-  pushed-is : pushed s counter run i j ≡ headed noted counter kept head
-  unfolding pushed noted kept head p
+  pushed-is : logged ≡ headed noted counter kept head
+  unfolding logged pushed noted kept head p
   pushed-is = refl
 
   header-change : Changes noted (headed noted counter kept head) counterAt bookAt
   header-change = headed-changes noted (lent-noted .bytes) counter kept head
 
-  pub pushed-lent : Lent (pushed s counter run i j)
+  pushed-lent : Lent logged
   pushed-lent = rw pushed-is (lent-after lent-noted header-change)
 
   -- the view stays
-  pub pushed-view : viewOf (pushed s counter run i j) ≡ viewOf s
+  pushed-view : viewOf logged ≡ viewOf s
   pushed-view =
       rw pushed-is
       (view-stays header-change (omega (arith, lent-noted .size)) (inr (omega arith))
@@ -94,32 +117,31 @@ module _ (s : List ℕ) (lent : Lent s) (counter : Ticket) (run : Run) (i j : �
   header-room : bookAt ≤ length noted
   header-room = omega (arith, lent-noted .size)
 
-  pub pushed-counter : counter .0 < 2 ^ 32 → counterOf (pushed s counter run i j) ≡ counter
+  pushed-counter : counter .0 < 2 ^ 32 → counterOf logged ≡ counter
   pushed-counter l = rw pushed-is (headed-counter noted (lent-noted .bytes) counter kept head header-room l)
 
-  pub pushed-kept : keptOf (pushed s counter run i j) ≡ min depth (suc (keptOf s))
+  pushed-kept : keptOf logged ≡ min depth (suc (keptOf s))
   unfolding kept
   pushed-kept =
-      let n : numberAt wordBytes (pushed s counter run i j) keptAt ≡ kept =
+      let n : numberAt wordBytes logged keptAt ≡ kept =
       rw pushed-is (headed-kept noted (lent-noted .bytes) counter kept head header-room (word-small kept (omega arith))) in
       omega arith
 
-  pub pushed-head : headOf (pushed s counter run i j) ≡ after depth (headOf s)
+  pushed-head : headOf logged ≡ after depth (headOf s)
   unfolding head p
   pushed-head =
       ap (λ (n : ℕ). n % depth) (rw pushed-is (headed-head noted (lent-noted .bytes) counter kept head header-room (word-small head (omega (arith, head-below)))))
       ∙ mod-eq-of-lt head-below
 
-  -- the entry reads as the run and the rows
-  pub pushed-new : run .start .0 < 256 → run .slots < 256
-      → entryIn (pushed s counter run i j) (headOf s) ≡ effectOf run (rowNow (viewOf s) i) (rowNow (viewOf s) j)
+  -- the entry reads as what was saved
+  pushed-new : entryIn logged (headOf s) ≡ saved (viewOf s) e
   unfolding noted p
-  pushed-new hs hn =
+  pushed-new =
       rw pushed-is
-      (entry-stays header-change (entryOffset p) (inr (omega arith)) ∙ entry-kept-back s lent run i j p hi hj p-in hs hn)
+      (entry-stays header-change (entryOffset p) (inr (omega arith)) ∙ entry-kept-back s lent e bounds (entryOffset p) (omega arith) (entry-room p p-in))
 
   -- and every other stays
-  pub pushed-others : (q : ℕ) → q ≢ headOf s → entryIn (pushed s counter run i j) q ≡ entryIn s q
+  pushed-others : (q : ℕ) → q ≢ headOf s → entryIn logged q ≡ entryIn s q
   unfolding p
   pushed-others q ne =
       rw pushed-is
@@ -128,88 +150,71 @@ module _ (s : List ℕ) (lent : Lent s) (counter : Ticket) (run : Run) (i j : �
 -- ---- the effect taken in
 
 module _ (s : List ℕ) (lent : Lent s) (counter : Ticket) (e : Effect) (fits : EffectFits e) where
-  before : Run
-  before = runBefore e
+  pushes : List ℕ
+  pushes = logged s lent counter e (fits .bounds)
 
-  i : ℕ
-  i = e .changed .row
-
-  j : ℕ
-  j = e .also .row
-
-  hi : i ≤ rowCount
-  unfolding i
-  hi = omega (arith, fits .bounds .changed)
-
-  hj : j ≤ rowCount
-  unfolding j
-  hj = fits .bounds .also
-
-  logged : List ℕ
-  logged = pushed s counter before i j
-
-  lent-logged : Lent logged
-  unfolding logged
-  lent-logged = pushed-lent s lent counter before i j hi hj
+  lent-pushes : Lent pushes
+  unfolding pushes
+  lent-pushes = pushed-lent s lent counter e (fits .bounds)
 
   marks : List ℕ
-  marks = runMarked logged (runOf e)
+  marks = runMarked pushes (e .start) (e .slots) (e .taken)
 
   lent-marks : Lent marks
   unfolding marks
-  lent-marks = lent-booked logged lent-logged e
+  lent-marks = lent-booked pushes lent-pushes e
 
   first-put : RowPut marks (changePut marks (e .changed)) (e .changed)
   first-put = written marks (e .changed) lent-marks (λ l. fits .changed)
 
   second-put : RowPut (changePut marks (e .changed)) (settled s counter e) (e .also)
-  unfolding settled effectPut marks logged before i j
+  unfolding settled effectPut marks pushes logged
   second-put = written (changePut marks (e .changed)) (e .also) (lent-after lent-marks (first-put .changes)) (fits .also)
 
   -- all that comes after the push is between the header and the log
-  after-push : Changes logged (settled s counter e) bookAt (lastSlot + rowBytes * rowCount)
+  after-push : Changes pushes (settled s counter e) bookAt (lastSlot + rowBytes * rowCount)
   unfolding marks
-  after-push = put-changes logged lent-logged e first-put second-put
+  after-push = put-changes pushes lent-pushes e first-put second-put
 
   pub settled-lent : Lent (settled s counter e)
-  settled-lent = lent-after lent-logged after-push
+  settled-lent = lent-after lent-pushes after-push
 
   -- the view is the effect's on the view before
   pub settled-view : viewOf (settled s counter e) ≡ applied (viewOf s) e
-  unfolding marks logged
+  unfolding marks pushes
   settled-view =
-      put-view logged lent-logged e first-put second-put
-      ∙ ap (λ (v : View). applied v e) (pushed-view s lent counter before i j hi hj)
+      put-view pushes lent-pushes e first-put second-put
+      ∙ ap (λ (v : View). applied v e) (pushed-view s lent counter e (fits .bounds))
 
   -- the counter is the one given
   pub settled-counter : counter .0 < 2 ^ 32 → counterOf (settled s counter e) ≡ counter
-  unfolding logged
+  unfolding pushes
   settled-counter l =
-      let number : numberAt wordBytes (settled s counter e) counterAt ≡ numberAt wordBytes logged counterAt =
+      let number : numberAt wordBytes (settled s counter e) counterAt ≡ numberAt wordBytes pushes counterAt =
       number-stays after-push wordBytes counterAt (inl (omega arith)) in
-      (λ k. record { 0 = number k }) ∙ pushed-counter s lent counter before i j hi hj l
+      (λ k. record { 0 = number k }) ∙ pushed-counter s lent counter e (fits .bounds) l
 
   -- one more entry is kept, up to the ring's notches
   pub settled-kept : keptOf (settled s counter e) ≡ min depth (suc (keptOf s))
-  unfolding logged
+  unfolding pushes
   settled-kept =
-      ap (min depth) (number-stays after-push wordBytes keptAt (inl (omega arith))) ∙ pushed-kept s lent counter before i j hi hj
+      ap (min depth) (number-stays after-push wordBytes keptAt (inl (omega arith))) ∙ pushed-kept s lent counter e (fits .bounds)
 
   settled-head : headOf (settled s counter e) ≡ after depth (headOf s)
-  unfolding logged
+  unfolding pushes
   settled-head =
-      ap (λ (n : ℕ). n % depth) (number-stays after-push wordBytes headAt (inl (omega arith))) ∙ pushed-head s lent counter before i j hi hj
+      ap (λ (n : ℕ). n % depth) (number-stays after-push wordBytes headAt (inl (omega arith))) ∙ pushed-head s lent counter e (fits .bounds)
 
-  entry-there : (q : ℕ) → entryIn (settled s counter e) q ≡ entryIn logged q
+  entry-there : (q : ℕ) → entryIn (settled s counter e) q ≡ entryIn pushes q
   entry-there q = entry-stays after-push (entryOffset q) (inr (omega arith))
 
   new-entry : entryIn (settled s counter e) (headOf s) ≡ saved (viewOf s) e
-  unfolding logged saved before i j
-  new-entry = entry-there (headOf s) ∙ pushed-new s lent counter before i j hi hj (fits .bounds .start) (fits .bounds .slots)
+  unfolding pushes
+  new-entry = entry-there (headOf s) ∙ pushed-new s lent counter e (fits .bounds)
 
   old-entry : (q : ℕ) → q < depth → q ≢ headOf s → entryIn (settled s counter e) q ≡ entryIn s q
-  unfolding logged
-  old-entry q l ne = entry-there q ∙ pushed-others s lent counter before i j hi hj q ne
+  unfolding pushes
+  old-entry q l ne = entry-there q ∙ pushed-others s lent counter e (fits .bounds) q ne
 
   -- what was saved of the view goes on top of the log, and the oldest of 129 drops out
   pub settled-log : logOf (settled s counter e) ≡ take depth (saved (viewOf s) e ∷ logOf s)

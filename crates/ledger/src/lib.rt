@@ -1,32 +1,15 @@
-// What moves a session: an effect taken into its bytes, with the entry that undoes it kept in the log's ring, and entries undone. All
-// offsets are store's. Here is what keeping and undoing share.
+// What moves a session: an effect taken into its bytes, with the entry that undoes it kept in the log's ring, and entries undone. Here is what
+// both share: the ring's notches and the header.
 pub mod back;
-mod runs;
 pub mod settled;
 
-use rows::row;
 use store::layout;
 use trains::kinds::Ticket;
-use trains::sought::ROWS;
 ghost use mathlib.Core.Path.{_≡_};
 ghost use Prim.Native.Nat.{_^_, _<_};
-ghost use lib.ListN.{length};
 ghost use Rattle.replay.specs.Demand3.{depth};
 ghost use Rattle.store.specs.Layout.{entryOffset};
-ghost use Rattle.ledger.specs.Copied.{rowCopied, RowThere};
-ghost use Rattle.ledger.specs.Settled.{headed};
-
-// Row i, where it is one of the register's, from an offset to another, by way of other bytes.
-fn copy_row(s: &mut [u8], i: u32, from: usize, to: usize)
-    requires { ⌜ RowThere i from (length (now s)) ⌝ }
-    ensures { λ _. ⌜ now (s .exit) ≡ rowCopied (now (s .entry)) i from to ⌝ }
-{
-    if (i as usize) < ROWS {
-        let mut kept: [u8; row::ROW] = [0; row::ROW];
-        numbers::copy(s, from, row::ROW, &mut kept, 0);
-        numbers::copy(&kept, 0, row::ROW, s, to);
-    }
-}
+ghost use Rattle.ledger.specs.Log.{headed};
 
 // The entry in a notch of the ring.
 fn entry_offset(notch: usize) -> usize

@@ -26,7 +26,8 @@ use Rattle.store.specs.Lent.{Lent}
 use Rattle.store.specs.Stands.{viewOf, counterOf, keptOf}
 use Rattle.store.specs.Tidy.{Tidy}
 use Rattle.store.proofs.ViewLaws.{view-fits, view-row-past}
-use Rattle.ledger.specs.Log.{saved, logOf}
+use Rattle.entries.specs.Entry.{saved}
+use Rattle.ledger.specs.Log.{logOf}
 use Rattle.ledger.specs.Settled.{settled}
 use Rattle.ledger.proofs.BoundsLaws.{settled-in}
 use Rattle.ledger.proofs.SettledLaws.{EffectFits, settled-lent, settled-view, settled-counter, settled-kept, settled-log}

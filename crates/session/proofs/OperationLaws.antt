@@ -17,7 +17,8 @@ use Rattle.order.proofs.RuleLaws.{refused-plain, accepted-exactly}
 use Rattle.store.specs.Layout.{isSession}
 use Rattle.store.specs.Stands.{viewOf, counterOf, keptOf}
 use Rattle.ledger.specs.Back.{steppedBy, steppedIn}
-use Rattle.ledger.specs.Settled.{inBounds, settled, settledIn}
+use Rattle.entries.specs.Kept.{inBounds}
+use Rattle.ledger.specs.Settled.{settled, settledIn}
 use Rattle.judging.specs.Judged.{judged}
 use Rattle.session.specs.Answers.{ofSession, taken, answerTo, bytesAfter, backAnswer, backAfter}
 use Rattle.session.specs.Settings.{usual}

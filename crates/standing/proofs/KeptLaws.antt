@@ -31,7 +31,8 @@ use Rattle.store.specs.Layout.{sessionBytes, isSession}
 use Rattle.store.specs.Lent.{Lent}
 use Rattle.store.specs.Stands.{viewOf, counterOf, keptOf, headOf}
 use Rattle.ledger.specs.Back.{steppedBy}
-use Rattle.ledger.specs.Log.{Entry, saved, undone, entryIn, logOf}
+use Rattle.entries.specs.Entry.{Entry, saved, undone}
+use Rattle.ledger.specs.Log.{entryIn, logOf}
 use Rattle.ledger.proofs.BackLaws.{undoneAll, stepped-by-lent, stepped-by-view, stepped-by-counter, stepped-by-log}
 use Rattle.ledger.proofs.BoundsLaws.{stepped-in}
 use Rattle.judging.specs.Judged.{judged}

@@ -19,8 +19,8 @@ use Rattle.rules.specs.declared.settings.Settings.{Settings}
 use Rattle.order.specs.Sound.{Sound}
 use Rattle.order.proofs.RuleLaws.{accepted-plain, accepted-exactly, grant-below, Alike, again, grant-again}
 use Rattle.order.proofs.SoundLaws.{sound-kept, run-held}
-use Rattle.ledger.specs.Log.{saved, undone}
-use Rattle.ledger.proofs.LogLaws.{undo-save}
+use Rattle.entries.specs.Entry.{saved, undone}
+use Rattle.entries.proofs.SaveLaws.{undo-save}
 use Rattle.standing.specs.Said.{Reply, replyOf}
 use Rattle.standing.specs.Standing.{outcome, rules}
 

@@ -19,7 +19,8 @@ use Rattle.rules.specs.declared.settings.Settings.{Settings}
 use Rattle.order.specs.Sound.{Sound}
 use Rattle.store.specs.Lent.{Lent}
 use Rattle.store.specs.Stands.{viewOf, counterOf}
-use Rattle.ledger.specs.Log.{Entry, saved, undone, logOf}
+use Rattle.entries.specs.Entry.{Entry, saved, undone}
+use Rattle.ledger.specs.Log.{logOf}
 use Rattle.session.specs.Answers.{answerTo, bytesAfter, backAnswer, backAfter}
 use Rattle.session.specs.Settings.{usual}
 use Rattle.standing.specs.Said.{Reply, replyOf, said}

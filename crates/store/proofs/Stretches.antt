@@ -13,45 +13,6 @@ use Rattle.numbers.proofs.FieldLaws.{Bytes, lt-or-le}
 abbrev pub Outside : ℕ → ℕ → ℕ → Type 0
 Outside i n k = (k < i) ⊎ (i + n ≤ k)
 
--- a byte outside a run of stores stays
-pub sets-out : (l : List ℕ) (i : ℕ) (vs : List ℕ) (k : ℕ) → Outside i (length vs) k → getD (sets l i vs) k 0 ≡ getD l k 0
-sets-out l i [] k h = refl
-sets-out l i (a ∷ vs) k h =
-    sets-out (set l i a) (suc i) vs k (⊎-elim (λ b. inl (omega arith)) (λ b. inr (omega arith)) h)
-    ∙ getD-set-other l i k a 0 (λ e. ⊎-elim (λ b. omega arith) (λ b. omega arith) h)
-
--- a byte of the run is what was stored
-pub sets-in : (l : List ℕ) (i : ℕ) (vs : List ℕ) (k : ℕ) → i + length vs ≤ length l → k < length vs
-    → getD (sets l i vs) (i + k) 0 ≡ getD vs k 0
-sets-in l i [] k h m = absurd (omega arith)
-sets-in l i (a ∷ vs) zero h m =
-    let e : i + 0 ≡ i = omega arith in
-    ap (λ (n : ℕ). getD (sets (set l i a) (suc i) vs) n 0) e
-    ∙ sets-out (set l i a) (suc i) vs i (inl (omega arith))
-    ∙ getD-set-same l i a 0 (omega arith)
-sets-in l i (a ∷ vs) (suc k) h m =
-    let e : i + suc k ≡ suc i + k = omega arith in
-    ap (λ (n : ℕ). getD (sets (set l i a) (suc i) vs) n 0) e
-    ∙ sets-in (set l i a) (suc i) vs k (rw length-set (omega arith)) (omega arith)
-
--- a list that has the values where they go, and all else as it was, is the list after the stores
-pub sets-like : (m l : List ℕ) (i : ℕ) (vs : List ℕ) → i + length vs ≤ length l → length m ≡ length l
-    → ((k : ℕ) → k < length vs → getD m (i + k) 0 ≡ getD vs k 0)
-    → ((k : ℕ) → Outside i (length vs) k → getD m k 0 ≡ getD l k 0)
-    → m ≡ sets l i vs
-sets-like m l i vs h e here there = ext-getD 0 m (sets l i vs) (e ∙ sym (length-sets l i vs)) (λ k b. at k (lt-or-le k i) (lt-or-le k (i + length vs)))
-  where
-    out : (k : ℕ) → Outside i (length vs) k → getD m k 0 ≡ getD (sets l i vs) k 0
-    out k o = there k o ∙ sym (sets-out l i vs k o)
-
-    at : (k : ℕ) → (k < i) ⊎ (i ≤ k) → (k < i + length vs) ⊎ (i + length vs ≤ k) → getD m k 0 ≡ getD (sets l i vs) k 0
-    at k (inl a) b = out k (inl a)
-    at k (inr a) (inr b) = out k (inr b)
-    at k (inr a) (inl b) =
-        let d : ℕ = k - i in
-        let f : k ≡ i + d = omega arith in
-        rw f (here d (omega arith) ∙ sym (sets-in l i vs d h (omega arith)))
-
 -- two lists with the same bytes from a byte on, n of them, have the same stretch there
 pub stretch-same : (s t : List ℕ) (a b n : ℕ) → a + n ≤ length s → b + n ≤ length t
     → ((k : ℕ) → k < n → getD s (a + k) 0 ≡ getD t (b + k) 0) → take n (drop a s) ≡ take n (drop b t)

@@ -2,7 +2,7 @@
 use mathlib.Core.Path.{_∙_}
 use Rattle.numbers.specs.Numbers.{putNumber}
 use Rattle.store.specs.Layout.{keptAt, headAt}
-use Rattle.ledger.specs.Settled.{headed}
+use Rattle.ledger.specs.Log.{headed}
 use borrow.Author.Needs.{needs}
 use Rattle.ledger.proofs.put_header.Statement.{statement}
 use Rattle.ledger.proofs.put_header.Tie as tie

@@ -8,7 +8,6 @@ use Rattle.store.specs.Layout.{sessionBytes}
 use Rattle.ledger.specs.Back.{steppedBy, steppedIn}
 use Rattle.ledger.proofs.BackLaws.{stepped-by-one, stepped-by-none}
 use Rattle.ledger.proofs.BoundsLaws.{stepped-in}
-use Rattle.ledger.proofs.Sizes.{length-stepped}
 use borrow.Author.Needs.{needs}
 use Rattle.ledger.proofs.back.step_back.Statement.{statement}
 use Rattle.ledger.proofs.back.step_back.Tie as tie
@@ -33,7 +32,7 @@ loop-again c =
     let l = c .before .before .before .before .before .loop in
     let e = c .before .before .step-one .ensures in (
       l .inv .0,
-      ap length e ∙ length-stepped (l .s) ∙ l .inv .1,
+      search needs,
       ap (steppedBy (l .left - 1)) e ∙ stepped-by-one (l .left) (l .s) (omega arith) ∙ l .inv .2,
     )
 

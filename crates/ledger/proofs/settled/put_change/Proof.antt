@@ -2,7 +2,7 @@
 use mathlib.Core.Path.{sym, ap, _∙_}
 use Prim.Native.Nat.{ℕ}
 use Rattle.rows.specs.Row.{putRow}
-use Rattle.ledger.proofs.PutLaws.{change-put, change-passed}
+use Rattle.ledger.proofs.SettledLaws.{change-put, change-passed}
 use borrow.Author.Needs.{needs}
 use Rattle.ledger.proofs.settled.put_change.Statement.{statement}
 use Rattle.ledger.proofs.settled.put_change.Tie as tie

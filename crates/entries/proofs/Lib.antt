@@ -1,0 +1,9 @@
+pub mod CopyLaws
+pub mod MarkLaws
+pub mod BoundsLaws
+pub mod ThreeLaws
+pub mod EntryLaws
+pub mod PutLaws
+pub mod UndoneLaws
+pub mod SaveLaws
+pub mod TidyLaws

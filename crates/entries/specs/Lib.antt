@@ -1,0 +1,5 @@
+pub mod Marks
+pub mod Entry
+pub mod Copied
+pub mod Kept
+pub mod Undone
