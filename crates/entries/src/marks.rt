@@ -5,15 +5,17 @@ use trains::kinds::Slot;
 ghost use mathlib.Core.Path.{_≡_};
 ghost use Rattle.entries.specs.Marks.{slotPut, runMarked};
 
-// Slots are counted from 1.
-const BEFORE_BOOK: usize = layout::BOOK - 1;
+// Slots are counted from 1: the offset that slot 0 would have, and the slot past the last one.
+const SLOT_0: usize = layout::BOOK - 1;
+
+const PAST_BOOK: usize = LAST_SLOT as usize + 1;
 
 // A slot marked; one that is none of the book's marks nothing.
 fn mark_slot(s: &mut [u8], slot: Slot, mark: u32)
     ensures { λ _. ⌜ now (s .exit) ≡ slotPut (now (s .entry)) (slot .0) mark ⌝ }
 {
     if slot.in_range() {
-        numbers::put_byte(s, BEFORE_BOOK + slot.0 as usize, mark);
+        numbers::put_byte(s, SLOT_0 + slot.0 as usize, mark);
     }
 }
 
@@ -23,7 +25,7 @@ pub fn mark_run(s: &mut [u8], start: Slot, slots: u32, taken: bool)
 {
     let mark = numbers::one_if(taken);
     let mut slot = start.0 as usize;
-    let end = numbers::at_most(slot + slots as usize, LAST_SLOT as usize + 1);
+    let end = numbers::at_most(slot + slots as usize, PAST_BOOK);
     while slot < end {
         mark_slot(s, Slot(slot as u32), mark);
         slot += 1;

@@ -25,8 +25,8 @@ loop-holds c =
     let a = c .before .before .before .before .args in
     (refl, omega arith, ap (λ (n : ℕ). slotsPut (a .s .now) (a .start .0) n (c .before .before .one-if .result)) (omega arith))
 
-cast-t16 : tie.Need-cast-t16 Inv-loop μ-loop
-cast-t16 c = omega arith
+cast-t14 : tie.Need-cast-t14 Inv-loop μ-loop
+cast-t14 c = omega arith
 
 loop-again : tie.Need-loop-again Inv-loop μ-loop
 loop-again c =
@@ -62,5 +62,5 @@ pub mark-run-spec : {M : Type 1} → statement M
 mark-run-spec =
     tie.close
     (tie.spec
-    Inv-loop μ-loop (λ c κs. search needs) (λ c. search needs) (λ c. search needs) (λ c. search needs) (λ c. search needs) (λ c κs. search needs) loop-holds cast-t16
+    Inv-loop μ-loop (λ c κs. search needs) (λ c. search needs) (λ c. search needs) (λ c κs. search needs) loop-holds cast-t14
     (λ c κs. search needs) (λ c. search needs) (λ c. search needs) loop-again (λ c. search needs) returns)
