@@ -1,11 +1,11 @@
 #!/usr/bin/env python3
-"""What the example programs are given and must print, made anew and compared with what stands beside them:
+"""What the example programs and the driver of the C library are given and must print, made anew and compared with what stands beside them:
 
   tests/expected.py                     compares; the exit status is 1 where something differs
   tests/expected.py --write             writes it instead, after a case or the session's size was changed
   tests/expected.py --without-driver    compares, and leaves out what the independent model says, which cargo builds
 
-crates/bench is run on a sample. The lines of crates/session_runs come from the model.
+crates/bench is run on a sample. The lines of tests/host/session.calls, which the driver makes, come from the model.
 """
 
 import pathlib
@@ -13,22 +13,21 @@ import subprocess
 import sys
 
 ROOT = pathlib.Path(__file__).resolve().parent.parent
-CRATES = ROOT / "crates"
 MODEL = ROOT / "tests" / "model"
 CALLS = str(MODEL / "target" / "release" / "session_calls")
 
-# Each file below crates/, and the script with its words that makes it, or the sample that it is.
+# Each file, and the script with its words that makes it, or the sample that it is.
 SCRIPTS = {
-    "listing_runs/stdin": ("listing_cases.py", "stdin"),
-    "listing_runs/stdout": ("listing_cases.py", "stdout"),
-    "packet_runs/stdin": ("packet_cases.py", "stdin"),
-    "packet_runs/stdout": ("packet_cases.py", "stdout"),
-    "modes_runs/stdout": ("mode_steps.py",),
-    "train_runs/stdout": ("train_tables.py",),
-    "session_runs/stdin": ("session_cases.py", "stdin"),
-    "session_runs/stdout": ("session_cases.py", "stdout", CALLS),
+    "crates/listing_runs/stdin": ("listing_cases.py", "stdin"),
+    "crates/listing_runs/stdout": ("listing_cases.py", "stdout"),
+    "crates/packet_runs/stdin": ("packet_cases.py", "stdin"),
+    "crates/packet_runs/stdout": ("packet_cases.py", "stdout"),
+    "crates/modes_runs/stdout": ("mode_steps.py",),
+    "crates/train_runs/stdout": ("train_tables.py",),
+    "tests/host/session.calls": ("session_cases.py", "stdin"),
+    "tests/host/session.lines": ("session_cases.py", "stdout", CALLS),
 }
-SAMPLES = {"bench/stdin": "every-answer.rec", "bench/stdout": "every-answer.lst"}
+SAMPLES = {"crates/bench/stdin": "every-answer.rec", "crates/bench/stdout": "every-answer.lst"}
 
 
 def made(name):
@@ -54,14 +53,14 @@ def main(words):
     differing = 0
     files = names(words == ["--without-driver"])
     for name in files:
-        target, bytes_ = CRATES / name, made(name)
+        target, bytes_ = ROOT / name, made(name)
         if words == ["--write"]:
             target.write_bytes(bytes_)
         elif not target.is_file() or target.read_bytes() != bytes_:
-            print(f"crates/{name} is not what tests/expected.py makes; see which of the two is right, and write it by --write")
+            print(f"{name} is not what tests/expected.py makes; see which of the two is right, and write it by --write")
             differing += 1
-    for target in sorted(CRATES.glob("*/std*")):
-        if f"{target.parent.name}/{target.name}" not in SCRIPTS | SAMPLES:
+    for target in sorted(ROOT.glob("crates/*/std*")):
+        if str(target.relative_to(ROOT)) not in SCRIPTS | SAMPLES:
             print(f"{target.relative_to(ROOT)} is made by no script")
             differing += 1
     print(f"{len(files)} files that programs read or must print, {differing} differences")

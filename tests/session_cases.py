@@ -1,9 +1,9 @@
 #!/usr/bin/env python3
-"""The calls that crates/session_runs makes on a session, and what it must print.
+"""The calls that the driver of tests/host makes on one session of the C library, and the lines that it must print of them.
 
-  tests/session_cases.py stdin > crates/session_runs/stdin
+  tests/session_cases.py stdin > tests/host/session.calls
   cargo build --release --offline --manifest-path tests/model/Cargo.toml
-  tests/session_cases.py stdout tests/model/target/release/session_calls > crates/session_runs/stdout
+  tests/session_cases.py stdout tests/model/target/release/session_calls > tests/host/session.lines
 
 The lines come from the independent model. Where document 01 itself says what a call answers, the call says so here, and the
 model's line is held to it; each refusal of the table must have been given.
@@ -442,9 +442,7 @@ def cases():
 
 
 def given(calls):
-    data = b"".join(bytes_ for bytes_, _ in calls)
-    assert len(data) < 65536, "the program reads no more"
-    return data
+    return b"".join(bytes_ for bytes_, _ in calls)
 
 
 def expected(model):

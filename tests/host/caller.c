@@ -20,7 +20,8 @@ enum kind {
     FRAME, READ_GATES, WRITE_GATES, FRAME_AGE, NEXT_MODE, SESSION_SIZE,
     RUN_RECORD, LONGEST_RECORD,
     FILL = 30, /* the session's bytes are those given */
-    POKE = 31  /* byte n[0] of the session is n[1] */
+    POKE = 31, /* byte n[0] of the session is n[1] */
+    TURNS = 32 /* a request of loco n[0] for n[1] bytes and the release of what it got, n[2] times; the last request's answer */
 };
 
 struct call {
@@ -143,6 +144,17 @@ static void put_record(kb_record_answer a)
     reply.words[7] = (uint32_t)(a.number >> 32);
 }
 
+static kb_answer turns(uint8_t *s, size_t len, const uint32_t *n)
+{
+    kb_answer granted = {0};
+    uint32_t i;
+    for (i = 0; i < n[2]; i++) {
+        granted = kb_request(s, len, n[0], n[1]);
+        kb_release(s, len, n[0], granted.first);
+    }
+    return granted;
+}
+
 static void operate(const struct call *c, uint8_t *s, const uint8_t *given)
 {
     const uint32_t *n = c->n;
@@ -164,6 +176,7 @@ static void operate(const struct call *c, uint8_t *s, const uint8_t *given)
     case END: put_answer(kb_end(s, len, n[0], n[1])); break;
     case RUN_RECORD: put_record(kb_run_record(s, len, given, c->given, n[0])); break;
     case TRAIN: put_train(kb_train(s, len, n[0])); break;
+    case TURNS: put_answer(turns(s, len, n)); break;
     default: stop("no such call");
     }
 }

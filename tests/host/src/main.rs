@@ -2,9 +2,14 @@
 //!
 //!     bench_host SEED COUNT CALLER [ARGUMENTS]
 //!
-//! CALLER makes the calls (caller.c, built with the archive). The same seed gives the same calls.
+//! The same seed gives the same calls. Or makes the calls that a file holds, and prints a line for each, to be compared:
+//!
+//!     bench_host --cases FILE CALLER [ARGUMENTS]
+//!
+//! CALLER makes the calls (caller.c, built with the archive).
 
 mod calls;
+mod cases;
 mod expected;
 mod packets;
 mod random;
@@ -17,10 +22,11 @@ use bench_model::packets::GATE_BYTES;
 use bench_model::recording::LONGEST;
 use bench_model::session::{ROWS, SLOTS};
 use calls::Calls;
+use cases::Case;
 use expected::Expected;
 use std::collections::{BTreeMap, BTreeSet};
-use std::io::{Read, Write};
-use std::process::{ChildStdin, Command, ExitCode, Stdio};
+use std::io::{BufReader, Read, Write};
+use std::process::{ChildStdin, ChildStdout, Command, ExitCode, Stdio};
 use std::sync::mpsc::{sync_channel, Receiver, SyncSender};
 use wire::{Call, Kind, Reply, REPLY_BYTES};
 
@@ -92,26 +98,59 @@ impl Seen {
     }
 }
 
+/// The next reply, of a call by its number in the run.
+fn reply_to(call: &Call, number: u64, caller: &mut impl Read) -> Result<Reply, String> {
+    let mut head = [0; REPLY_BYTES];
+    let mut output = vec![0; call.room as usize];
+    let read = caller.read_exact(&mut head).and_then(|()| caller.read_exact(&mut output));
+    // Answers that the caller had not yet handed on are lost with it.
+    read.map_err(|error| format!("no answer from call {number} on ({error}): {call:?}"))?;
+    Ok(Reply::of(&head, output))
+}
+
+/// What a reply is held to, or what is wrong with it.
+fn judge(call: &Call, number: u64, expected: &Expected, reply: &Reply) -> Result<(), String> {
+    match expected.fault(call, reply) {
+        Some(fault) => Err(format!("call {number}: {call:?}\nanswers {reply:?}\n{fault}")),
+        None => Ok(()),
+    }
+}
+
 /// Compares the replies, or says what is wrong.
 fn compare(mut caller: impl Read, batches: Receiver<Batch>) -> Result<Seen, String> {
     let mut seen = Seen::default();
     for (call, expected) in batches.into_iter().flatten() {
-        let mut head = [0; REPLY_BYTES];
-        let mut output = vec![0; call.room as usize];
-        let read = caller.read_exact(&mut head).and_then(|()| caller.read_exact(&mut output));
         let number = seen.calls + 1;
-        // Answers that the caller had not yet handed on are lost with it.
-        read.map_err(|error| format!("no answer from call {number} on ({error}): {call:?}"))?;
-        let reply = Reply::of(&head, output);
-        if let Some(fault) = expected.fault(&call, &reply) {
-            return Err(format!("call {number}: {call:?}\nanswers {reply:?}\n{fault}"));
-        }
+        let reply = reply_to(&call, number, &mut caller)?;
+        judge(&call, number, &expected, &reply)?;
         seen.note(&call, &expected, &reply);
     }
     Ok(seen)
 }
 
-fn run(seed: u64, count: u64, command: &[String]) -> Result<Seen, String> {
+/// The line of each case. What a case must answer is said by whoever compares the lines; here a refusal and a question are held to change nothing.
+fn lines(mut caller: impl Read, cases: &[Case]) -> Result<Vec<String>, String> {
+    reply_to(&cases::foreign(), 0, &mut caller)?;
+    let mut lines = Vec::new();
+    for case in cases {
+        let number = lines.len() as u64 + 1;
+        let mut replies = Vec::new();
+        for call in &case.calls {
+            let reply = reply_to(call, number, &mut caller)?;
+            judge(call, number, &Expected::Foreign, &reply)?;
+            replies.push(reply);
+        }
+        lines.push(case.line(&replies));
+    }
+    Ok(lines)
+}
+
+/// Starts the caller, with one thread that sends it calls while this one reads its replies.
+fn drive<T>(
+    command: &[String],
+    sending: impl FnOnce(ChildStdin) + Send + 'static,
+    reading: impl FnOnce(BufReader<ChildStdout>) -> Result<T, String>,
+) -> Result<T, String> {
     let mut caller = Command::new(&command[0])
         .args(&command[1..])
         .stdin(Stdio::piped())
@@ -119,41 +158,68 @@ fn run(seed: u64, count: u64, command: &[String]) -> Result<Seen, String> {
         .spawn()
         .map_err(|error| format!("{}: {error}", command[0]))?;
     let (to_caller, from_caller) = (caller.stdin.take().expect("a pipe"), caller.stdout.take().expect("a pipe"));
-    let (sender, receiver) = sync_channel(16);
-    let sending = std::thread::spawn(move || send(seed, count, to_caller, sender));
-    let compared = compare(std::io::BufReader::with_capacity(1 << 16, from_caller), receiver);
-    if compared.is_err() {
+    let sender = std::thread::spawn(move || sending(to_caller));
+    let read = reading(BufReader::with_capacity(1 << 16, from_caller));
+    if read.is_err() {
         let _ = caller.kill();
     }
     let status = caller.wait().map_err(|error| error.to_string())?;
-    let _ = sending.join();
-    let seen = compared.map_err(|fault| format!("seed {seed}, {fault} (the caller ended with {status})"))?;
-    if !status.success() {
-        return Err(format!("seed {seed}: the caller ended with {status}"));
+    let _ = sender.join();
+    let read = read.map_err(|fault| format!("{fault} (the caller ended with {status})"))?;
+    if status.success() {
+        Ok(read)
+    } else {
+        Err(format!("the caller ended with {status}"))
     }
+}
+
+fn run(seed: u64, count: u64, command: &[String]) -> Result<Seen, String> {
+    let (sender, receiver) = sync_channel(16);
+    let sending = move |caller| send(seed, count, caller, sender);
+    let seen = drive(command, sending, |caller| compare(caller, receiver))?;
     if count >= 1_000_000 {
-        seen.missing().map_or(Ok(()), |missing| Err(format!("seed {seed}: {missing}")))?;
+        seen.missing().map_or(Ok(()), Err)?;
     }
     Ok(seen)
+}
+
+/// Makes the calls of a file's cases, each watched, and prints their lines.
+fn run_cases(file: &str, command: &[String]) -> Result<(), String> {
+    let cases = Case::all(&std::fs::read(file).map_err(|error| format!("{file}: {error}"))?);
+    let mut bytes = Vec::new();
+    cases::foreign().put(false, &mut bytes);
+    cases.iter().flat_map(|case| &case.calls).for_each(|call| call.put(true, &mut bytes));
+    // Where the caller has stopped, whoever reads its replies says so.
+    let sending = move |mut caller: ChildStdin| drop(caller.write_all(&bytes));
+    let lines = drive(command, sending, |caller| lines(caller, &cases))?;
+    lines.iter().for_each(|line| println!("{line}"));
+    Ok(())
+}
+
+fn run_random(seed: u64, count: u64, command: &[String]) -> Result<(), String> {
+    let seen = run(seed, count, command).map_err(|fault| format!("seed {seed}, {fault}"))?;
+    let listed: Vec<String> = seen.answers.iter().map(|(answer, times)| format!("{answer}: {times}")).collect();
+    println!("host: answers {}", listed.join(", "));
+    println!(
+        "host: {} calls tried with seed {seed}, {} of them on foreign sessions: no difference",
+        seen.calls, seen.foreign
+    );
+    Ok(())
 }
 
 fn main() -> ExitCode {
     let words: Vec<String> = std::env::args().skip(1).collect();
     let numbers = words.iter().take(2).map(|word| word.parse::<u64>()).collect::<Result<Vec<_>, _>>();
-    let (Ok(&[seed, count]), true) = (numbers.as_deref(), words.len() > 2) else {
-        eprintln!("usage: bench_host SEED COUNT CALLER [ARGUMENTS]");
-        return ExitCode::from(2);
-    };
-    match run(seed, count, &words[2..]) {
-        Ok(seen) => {
-            let listed: Vec<String> = seen.answers.iter().map(|(answer, times)| format!("{answer}: {times}")).collect();
-            println!("host: answers {}", listed.join(", "));
-            println!(
-                "host: {} calls tried with seed {seed}, {} of them on foreign sessions: no difference",
-                seen.calls, seen.foreign
-            );
-            ExitCode::SUCCESS
+    let run = match (&words[..], numbers.as_deref()) {
+        ([_, _, command @ ..], Ok(&[seed, count])) if !command.is_empty() => run_random(seed, count, command),
+        ([word, file, command @ ..], _) if word == "--cases" && !command.is_empty() => run_cases(file, command),
+        _ => {
+            eprintln!("usage: bench_host SEED COUNT CALLER [ARGUMENTS], or --cases FILE CALLER [ARGUMENTS]");
+            return ExitCode::from(2);
         }
+    };
+    match run {
+        Ok(()) => ExitCode::SUCCESS,
         Err(fault) => {
             println!("host: A DIFFERENCE: {fault}");
             ExitCode::FAILURE

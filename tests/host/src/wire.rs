@@ -42,6 +42,8 @@ pub enum Kind {
     Fill = 30,
     /// No call: one byte of the session becomes another.
     Poke = 31,
+    /// Many calls: a request and the release of what it got, again and again; the answer is the last request's.
+    Turns = 32,
 }
 
 impl Kind {
@@ -55,11 +57,11 @@ impl Kind {
     }
 
     pub fn takes_session(self) -> bool {
-        (self as u32) <= Kind::Train as u32 || self == Kind::RunRecord
+        (self as u32) <= Kind::Train as u32 || matches!(self, Kind::RunRecord | Kind::Turns)
     }
 
     pub fn may_change(self) -> bool {
-        (self as u32) <= Kind::StepBack as u32 || self == Kind::RunRecord
+        (self as u32) <= Kind::StepBack as u32 || matches!(self, Kind::RunRecord | Kind::Turns)
     }
 }
 

@@ -1,4 +1,4 @@
-//! Runs the calls of tests/session_cases.py on the model's session and prints what crates/session_runs must print.
+//! Runs the calls of tests/session_cases.py on the model's session and prints what the driver of tests/host must print of them.
 //!
 //! A call: kind (1 byte), session bytes lent and length of the rest (2 each), then numbers of 4 bytes and flags.
 
