@@ -24,7 +24,7 @@ use Rattle.store.specs.Stands.{viewOf, bookOf, counterOf, keptOf}
 use Rattle.store.proofs.RegisterLaws.{view-book}
 use Rattle.judging.specs.Judged.{judged, endJudged}
 use Rattle.session.specs.Answers.{ofSession, answerTo, backAnswer, endAnswerTo}
-use Rattle.session.specs.Settings.{usual}
+use Rattle.settings.specs.Usual.{usual}
 use Rattle.standing.specs.Standing.{answered}
 use Rattle.host.specs.Told.{numberAnswer, trainTold, trainRefused, trainAnswer}
 

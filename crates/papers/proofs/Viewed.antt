@@ -23,7 +23,7 @@ use Rattle.store.specs.Lent.{Lent}
 use Rattle.store.specs.Stands.{viewOf, counterOf}
 use Rattle.judging.specs.Judged.{judged, endJudged}
 use Rattle.session.specs.Answers.{startAfter, answerTo, bytesAfter, endAnswerTo}
-use Rattle.session.specs.Settings.{usual}
+use Rattle.settings.specs.Usual.{usual}
 use Rattle.session.proofs.AfterLaws.{after-lent, after-view, after-counter, refused-bytes}
 use Rattle.session.proofs.OperationLaws.{of-session}
 use Rattle.standing.proofs.Theorem.{started-lent, started-view, started-counter}

@@ -32,7 +32,7 @@ use Rattle.store.specs.Layout.{isSession}
 use Rattle.store.specs.Stands.{viewOf, counterOf, keptOf}
 use Rattle.judging.specs.Judged.{judged}
 use Rattle.session.specs.Answers.{ofSession, answerTo, backAnswer}
-use Rattle.session.specs.Settings.{usual}
+use Rattle.settings.specs.Usual.{usual}
 use Rattle.standing.specs.Standing.{answered}
 
 -- a number that is not 24

@@ -34,7 +34,7 @@ use Rattle.ledger.proofs.SettledLaws.{EffectFits, settled-lent, settled-view, s
 use Rattle.ledger.proofs.TidyLaws.{settled-tidy}
 use Rattle.judging.specs.Judged.{judged}
 use Rattle.session.specs.Answers.{answerTo, bytesAfter, backAnswer, backAfter}
-use Rattle.session.specs.Settings.{usual}
+use Rattle.settings.specs.Usual.{usual}
 use Rattle.session.proofs.FitLaws.{Fitted, fits-blank, fitting}
 use Rattle.session.proofs.OperationLaws.{of-session, of-none, taken-in, not-taken, taken-elsewhere, back-far, back-refused, back-taken, back-elsewhere}
 

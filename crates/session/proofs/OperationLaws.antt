@@ -21,7 +21,7 @@ use Rattle.entries.specs.Kept.{inBounds}
 use Rattle.ledger.specs.Settled.{settled, settledIn}
 use Rattle.judging.specs.Judged.{judged}
 use Rattle.session.specs.Answers.{ofSession, taken, answerTo, bytesAfter, backAnswer, backAfter}
-use Rattle.session.specs.Settings.{usual}
+use Rattle.settings.specs.Usual.{usual}
 
 -- the lent bytes are a session, or not
 pub of-session : (bs : List ℕ) (a : Answer) → isSession bs ≡ true → ofSession bs a ≡ a

@@ -16,7 +16,7 @@ use Rattle.store.specs.Stands.{keptOf}
 use Rattle.ledger.specs.Back.{steppedIn}
 use Rattle.ledger.specs.Settled.{settledIn}
 use Rattle.judging.specs.Judged.{judged, endJudged}
-use Rattle.session.specs.Settings.{usual}
+use Rattle.settings.specs.Usual.{usual}
 
 -- an answer where the lent bytes are as long as a session; any other length is refused
 unfoldable pub ofSession : List ℕ → Answer → Answer

@@ -1,5 +1,4 @@
 // THE OPERATIONS on a lent session. Each judges first and then takes the effect in; a refusal changes no byte.
-use crate::settings;
 use ledger::back;
 use ledger::settled;
 use rules::deeds::Deed;

@@ -37,7 +37,7 @@ use Rattle.ledger.proofs.BackLaws.{undoneAll, stepped-by-lent, stepped-by-view,
 use Rattle.ledger.proofs.BoundsLaws.{stepped-in}
 use Rattle.judging.specs.Judged.{judged}
 use Rattle.session.specs.Answers.{answerTo, bytesAfter, backAfter}
-use Rattle.session.specs.Settings.{usual}
+use Rattle.settings.specs.Usual.{usual}
 use Rattle.session.proofs.AfterLaws.{no-ground, counter-is, after-lent, after-view, after-counter, after-log, refused-bytes, refused-back}
 use Rattle.session.proofs.OperationLaws.{of-session, back-refused, back-taken}
 use Rattle.standing.specs.Said.{Reply, replyOf, ticketSaid, said}

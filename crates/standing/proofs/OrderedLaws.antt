@@ -34,7 +34,7 @@ use Rattle.ledger.proofs.BoundsLaws.{stepped-in}
 use Rattle.ledger.proofs.TidyLaws.{stepped-by-tidy}
 use Rattle.judging.specs.Judged.{judged as judgedBytes}
 use Rattle.session.specs.Answers.{startAfter, answerTo, bytesAfter}
-use Rattle.session.specs.Settings.{usual}
+use Rattle.settings.specs.Usual.{usual}
 use Rattle.session.proofs.AfterLaws.{after-lent, after-tidy, refused-bytes}
 use Rattle.session.proofs.OperationLaws.{of-session, back-far, back-near}
 use Rattle.standing.specs.Said.{Reply}

@@ -18,7 +18,7 @@ use Rattle.store.specs.Lent.{Lent}
 use Rattle.store.specs.Stands.{viewOf, counterOf}
 use Rattle.judging.specs.Judged.{judged}
 use Rattle.session.specs.Answers.{answerTo, bytesAfter}
-use Rattle.session.specs.Settings.{usual}
+use Rattle.settings.specs.Usual.{usual}
 use Rattle.session.proofs.AfterLaws.{no-ground, judged-is, after-view, refused-bytes}
 use Rattle.session.proofs.OperationLaws.{of-session}
 use Rattle.standing.specs.Ordered.{Ordered}

@@ -25,7 +25,7 @@ use Rattle.ledger.specs.Log.{logOf}
 use Rattle.ledger.proofs.LogLaws.{emptied-log}
 use Rattle.session.specs.Answers.{startAfter}
 use Rattle.rules.specs.Rules.{Op}
-use Rattle.session.specs.Settings.{usual}
+use Rattle.settings.specs.Usual.{usual}
 use Rattle.standing.specs.Standing.{rules, bytesLeft, session}
 use Rattle.standing.specs.Calls.{history, bytesAfterAll}
 use Rattle.standing.specs.Functions.{startCame}

@@ -3,7 +3,7 @@ use mathlib.Core.List.{List, [], _∷_}
 use Prim.Native.Nat.{ℕ}
 use Rattle.replay.specs.Demand3.{Call, History}
 use Rattle.rules.specs.Rules.{Op}
-use Rattle.session.specs.Settings.{usual}
+use Rattle.settings.specs.Usual.{usual}
 use Rattle.standing.specs.Said.{said}
 use Rattle.standing.specs.Standing.{rules, answered, bytesLeft}
 

@@ -22,7 +22,7 @@ use Rattle.store.specs.Stands.{viewOf, counterOf}
 use Rattle.entries.specs.Entry.{Entry, saved, undone}
 use Rattle.ledger.specs.Log.{logOf}
 use Rattle.session.specs.Answers.{answerTo, bytesAfter, backAnswer, backAfter}
-use Rattle.session.specs.Settings.{usual}
+use Rattle.settings.specs.Usual.{usual}
 use Rattle.standing.specs.Said.{Reply, replyOf, said}
 
 -- what a ruling comes to on a view
