@@ -23,7 +23,8 @@ use Rattle.store.specs.Lent.{Lent}
 use Rattle.store.specs.Stands.{viewOf, bookOf, counterOf, keptOf}
 use Rattle.store.proofs.RegisterLaws.{view-book}
 use Rattle.judging.specs.Judged.{judged, endJudged}
-use Rattle.session.specs.Answers.{ofSession, answerTo, backAnswer, endAnswerTo}
+use Rattle.session.specs.Answers.{answerTo, endAnswerTo}
+use Rattle.stepback.specs.Back.{ofSession, backAnswer}
 use Rattle.settings.specs.Usual.{usual}
 use Rattle.standing.specs.Standing.{answered}
 use Rattle.host.specs.Told.{numberAnswer, trainTold, trainRefused, trainAnswer}

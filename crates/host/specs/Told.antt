@@ -18,7 +18,7 @@ use Rattle.rules.specs.View.{rowIn}
 use Rattle.rules.specs.declared.ruling.Answer.{Answer}
 use Rattle.store.specs.Layout.{isSession}
 use Rattle.store.specs.Stands.{viewOf}
-use Rattle.session.specs.Answers.{ofSession}
+use Rattle.stepback.specs.Back.{ofSession}
 use Rattle.host.specs.declared.told.OrderTold.{OrderTold}
 use Rattle.host.specs.declared.told.TrainAnswer.{TrainAnswer}
 

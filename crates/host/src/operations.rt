@@ -9,7 +9,8 @@ ghost use mathlib.Core.Path.{_≡_};
 ghost use Rattle.store.specs.Layout.{sessionBytes};
 ghost use Rattle.rules.specs.Deeds.{meant, flags, position, authority, danger, clear};
 ghost use Rattle.rules.specs.Rules.{Op};
-ghost use Rattle.session.specs.Answers.{answerTo, bytesAfter, backAnswer, backAfter, startAnswer, startAfter};
+ghost use Rattle.session.specs.Answers.{answerTo, bytesAfter, startAnswer, startAfter};
+ghost use Rattle.stepback.specs.Back.{backAnswer, backAfter};
 ghost use Rattle.host.specs.Kinds.{loco, ticket};
 
 // The bytes that a session takes.
@@ -126,5 +127,5 @@ pub extern "C" fn kb_step_back(session: &mut [u8], k: u32) -> Answer
     ensures { λ r. ⌜ r ≡ backAnswer (now (session .entry)) k ⌝ }
     ensures { λ _. ⌜ now (session .exit) ≡ backAfter (now (session .entry)) k ⌝ }
 {
-    operations::step_back(session, k)
+    stepback::step_back(session, k)
 }

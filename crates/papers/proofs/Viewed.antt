@@ -25,7 +25,7 @@ use Rattle.judging.specs.Judged.{judged, endJudged}
 use Rattle.session.specs.Answers.{startAfter, answerTo, bytesAfter, endAnswerTo}
 use Rattle.settings.specs.Usual.{usual}
 use Rattle.session.proofs.AfterLaws.{after-lent, after-view, after-counter, refused-bytes}
-use Rattle.session.proofs.OperationLaws.{of-session}
+use Rattle.stepback.proofs.BackLaws.{of-session}
 use Rattle.standing.proofs.Theorem.{started-lent, started-view, started-counter}
 use Rattle.papers.specs.Cases.{Case, reading, stepping, requesting, ending, numbers, read, step, sessionAfter, computed}
 

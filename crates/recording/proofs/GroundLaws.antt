@@ -31,7 +31,8 @@ use Rattle.order.proofs.RuleLaws.{accepted-exactly, refused-plain}
 use Rattle.store.specs.Layout.{isSession}
 use Rattle.store.specs.Stands.{viewOf, counterOf, keptOf}
 use Rattle.judging.specs.Judged.{judged}
-use Rattle.session.specs.Answers.{ofSession, answerTo, backAnswer}
+use Rattle.session.specs.Answers.{answerTo}
+use Rattle.stepback.specs.Back.{ofSession, backAnswer}
 use Rattle.settings.specs.Usual.{usual}
 use Rattle.standing.specs.Standing.{answered}
 

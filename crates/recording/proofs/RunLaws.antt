@@ -8,7 +8,8 @@ use Rattle.rules.specs.Rules.{Op}
 use Rattle.rules.specs.Refusals.{badRecord}
 use Rattle.rules.specs.Ruling.{refusedWith}
 use Rattle.rules.specs.declared.ruling.Answer.{Answer}
-use Rattle.session.proofs.AfterLaws.{refused-bytes, refused-back}
+use Rattle.session.proofs.AfterLaws.{refused-bytes}
+use Rattle.stepback.proofs.BackLaws.{refused-back}
 use Rattle.standing.specs.Said.{answerBy}
 use Rattle.standing.proofs.SaidLaws.{said-refused, said-whole}
 use Rattle.standing.specs.Standing.{answered, bytesLeft}

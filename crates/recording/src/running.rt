@@ -22,7 +22,7 @@ fn make(session: &mut [u8], asked: Asked, flags: &[u8]) -> Answer
         Asked::Sos(loco2, ticket2, loco1, ticket1, grid) => {
             operations::sos(session, loco2, ticket2, loco1, ticket1, grid)
         }
-        Asked::StepBack(k) => operations::step_back(session, k),
+        Asked::StepBack(k) => stepback::step_back(session, k),
     }
 }
 

@@ -33,10 +33,11 @@ use Rattle.ledger.proofs.BoundsLaws.{settled-in}
 use Rattle.ledger.proofs.SettledLaws.{EffectFits, settled-lent, settled-view, settled-counter, settled-kept, settled-log}
 use Rattle.ledger.proofs.TidyLaws.{settled-tidy}
 use Rattle.judging.specs.Judged.{judged}
-use Rattle.session.specs.Answers.{answerTo, bytesAfter, backAnswer, backAfter}
+use Rattle.session.specs.Answers.{answerTo, bytesAfter}
 use Rattle.settings.specs.Usual.{usual}
+use Rattle.stepback.proofs.BackLaws.{of-session}
 use Rattle.session.proofs.FitLaws.{Fitted, fits-blank, fitting}
-use Rattle.session.proofs.OperationLaws.{of-session, of-none, taken-in, not-taken, taken-elsewhere, back-far, back-refused, back-taken, back-elsewhere}
+use Rattle.session.proofs.OperationLaws.{taken-in, not-taken, taken-elsewhere}
 
 -- the trains in a session's bytes fit their rows
 pub fitted-bytes : (bs : List ℕ) → Fitted (viewOf bs)
@@ -118,12 +119,3 @@ refused-bytes bs o h = of (isSession bs) refl
     of : (b : Bool) → isSession bs ≡ b → bytesAfter bs o ≡ bs
     of true e = sym (not-taken bs (judged usual bs o) (λ z. h (ap (λ (a : Answer). a .answer) (of-session bs _ e) ∙ z)))
     of false e = sym (taken-elsewhere bs (judged usual bs o) e)
-
--- and so does a step back
-pub refused-back : (bs : List ℕ) (k : ℕ) → (backAnswer bs k .answer ≡ 0 → ⊥) → backAfter bs k ≡ bs
-refused-back bs k h = of (isSession bs) refl (lt-or-le (keptOf bs) k)
-  where
-    of : (b : Bool) → isSession bs ≡ b → (keptOf bs < k) ⊎ (k ≤ keptOf bs) → backAfter bs k ≡ bs
-    of true e (inl far) = sym (back-far bs k far)
-    of true e (inr near) = absurd (h (ap (λ (a : Answer). a .answer) (sym (back-taken bs k e near .0))))
-    of false e d = sym (back-elsewhere bs k e)

@@ -1,26 +1,19 @@
 -- THE CONTRACTS' DEFINITIONS: what a call answers, and the lent bytes after it, for all bytes. A refusal leaves them as they were.
 use mathlib.Core.Bool.{cond}
 use mathlib.Core.List.{List}
-use Prim.Native.Nat.{ℕ, _-_}
-use lib.Dec.{ltb}
+use Prim.Native.Nat.{ℕ}
 use Rattle.trains.specs.declared.kinds.Loco.{Loco}
 use Rattle.trains.specs.declared.kinds.Ticket.{Ticket}
-use Rattle.rules.specs.Refusals.{wrongLength, tooFarBack}
 use Rattle.rules.specs.Rules.{Op}
-use Rattle.rules.specs.Ruling.{acceptedWith, refusedWith, accepts}
+use Rattle.rules.specs.Ruling.{acceptedWith, accepts}
 use Rattle.rules.specs.declared.ruling.Answer.{Answer}
 use Rattle.rules.specs.declared.ruling.Ruling.{Ruling}
 use Rattle.store.specs.Emptied.{emptied}
 use Rattle.store.specs.Layout.{isSession}
-use Rattle.store.specs.Stands.{keptOf}
-use Rattle.ledger.specs.Back.{steppedIn}
 use Rattle.ledger.specs.Settled.{settledIn}
 use Rattle.judging.specs.Judged.{judged, endJudged}
 use Rattle.settings.specs.Usual.{usual}
-
--- an answer where the lent bytes are as long as a session; any other length is refused
-unfoldable pub ofSession : List ℕ → Answer → Answer
-ofSession bs answer = cond (isSession bs) answer (refusedWith wrongLength)
+use Rattle.stepback.specs.Back.{ofSession}
 
 -- the answer to an operation
 unfoldable pub answerTo : List ℕ → Op → Answer
@@ -33,14 +26,6 @@ taken bs r = cond (accepts (r .answer)) (settledIn bs (r .counter) (r .effect)) 
 -- the bytes after an operation
 unfoldable pub bytesAfter : List ℕ → Op → List ℕ
 bytesAfter bs o = taken bs (judged usual bs o)
-
--- the answer to a step back of k: the entries kept then
-unfoldable pub backAnswer : List ℕ → ℕ → Answer
-backAnswer bs k = ofSession bs (cond (ltb (keptOf bs) k) (refusedWith tooFarBack) (acceptedWith (keptOf bs - k) 0 0))
-
--- the bytes after a step back of k
-unfoldable pub backAfter : List ℕ → ℕ → List ℕ
-backAfter bs k = cond (ltb (keptOf bs) k) bs (steppedIn k bs)
 
 -- the effective end of a named train
 unfoldable pub endAnswerTo : List ℕ → Loco → Ticket → Answer

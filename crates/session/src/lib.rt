@@ -1,3 +1,3 @@
-// A session in lent bytes: the operations, step-back and `start`, and the questions that only read.
+// A session in lent bytes: the operations and `start`, and the questions that only read.
 pub mod operations;
 pub mod questions;

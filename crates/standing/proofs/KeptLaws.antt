@@ -36,10 +36,11 @@ use Rattle.ledger.specs.Log.{entryIn, logOf}
 use Rattle.ledger.proofs.BackLaws.{undoneAll, stepped-by-lent, stepped-by-view, stepped-by-counter, stepped-by-log}
 use Rattle.ledger.proofs.BoundsLaws.{stepped-in}
 use Rattle.judging.specs.Judged.{judged}
-use Rattle.session.specs.Answers.{answerTo, bytesAfter, backAfter}
+use Rattle.session.specs.Answers.{answerTo, bytesAfter}
 use Rattle.settings.specs.Usual.{usual}
-use Rattle.session.proofs.AfterLaws.{no-ground, counter-is, after-lent, after-view, after-counter, after-log, refused-bytes, refused-back}
-use Rattle.session.proofs.OperationLaws.{of-session, back-refused, back-taken}
+use Rattle.session.proofs.AfterLaws.{no-ground, counter-is, after-lent, after-view, after-counter, after-log, refused-bytes}
+use Rattle.stepback.specs.Back.{backAfter}
+use Rattle.stepback.proofs.BackLaws.{refused-back, of-session, back-refused, back-taken}
 use Rattle.standing.specs.Said.{Reply, replyOf, ticketSaid, said}
 use Rattle.standing.specs.Standing.{outcome, rules, answered, bytesLeft, session}
 use Rattle.standing.proofs.RulesLaws.{outcome-accepted, outcome-refused, outcome-alike, due-grant, due-next, due-again}

@@ -15,6 +15,7 @@ use Rattle.rules.specs.Deeds.{meant}
 use Rattle.rules.specs.Rules.{Op}
 use Rattle.rules.specs.declared.deeds.Deed.{Deed}
 use Rattle.rules.specs.declared.ruling.Answer.{Answer}
+use Rattle.stepback.proofs.step_back.Reads as stepped
 use Rattle.session.proofs.operations
 use Rattle.standing.specs.Said.{said}
 use Rattle.standing.specs.Standing.{answered, bytesLeft, session}
@@ -53,7 +54,7 @@ module _ (w : World) (before after : RefT (List ℕ)) (r : Answer) where
     sos-says loco2 ticket2 loco1 ticket1 grid = (refl, refl)
 
     pub step-back-says : (k : ℕ)
-        → Says (operations.«step_back».Reads.requires κs) (operations.«step_back».Reads.ensures κs) (k, tt) (stepBackCame k)
+        → Says (stepped.requires κs) (stepped.ensures κs) (k, tt) (stepBackCame k)
     unfolding answered bytesLeft
     step-back-says k = (refl, refl)
 

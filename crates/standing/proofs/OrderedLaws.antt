@@ -36,7 +36,7 @@ use Rattle.judging.specs.Judged.{judged as judgedBytes}
 use Rattle.session.specs.Answers.{startAfter, answerTo, bytesAfter}
 use Rattle.settings.specs.Usual.{usual}
 use Rattle.session.proofs.AfterLaws.{after-lent, after-tidy, refused-bytes}
-use Rattle.session.proofs.OperationLaws.{of-session, back-far, back-near}
+use Rattle.stepback.proofs.BackLaws.{of-session, back-far, back-near}
 use Rattle.standing.specs.Said.{Reply}
 use Rattle.standing.specs.Standing.{outcome, rules, answered, bytesLeft, session}
 use Rattle.standing.specs.Calls.{history, bytesAfterAll}

@@ -11,12 +11,14 @@ use Rattle.numbers.proofs.FieldLaws.{lt-or-le}
 use Rattle.replay.specs.Demand3.{Call, op, back, took, wentBack, refused}
 use Rattle.store.specs.Layout.{isSession}
 use Rattle.store.specs.Stands.{keptOf}
-use Rattle.session.specs.Answers.{answerTo, backAnswer}
+use Rattle.session.specs.Answers.{answerTo}
 use Rattle.rules.specs.Refusals.{wrongLength, tooFarBack}
 use Rattle.rules.specs.Rules.{Op}
 use Rattle.rules.specs.Ruling.{acceptedWith, refusedWith}
 use Rattle.rules.specs.declared.ruling.Answer.{Answer}
-use Rattle.session.proofs.OperationLaws.{of-none, answer-plain, back-refused, back-taken}
+use Rattle.session.proofs.OperationLaws.{answer-plain}
+use Rattle.stepback.specs.Back.{backAnswer}
+use Rattle.stepback.proofs.BackLaws.{of-none, back-refused, back-taken}
 use Rattle.standing.specs.Said.{replyOf, ticketSaid, said, answerBy}
 use Rattle.standing.specs.Standing.{answered}
 

@@ -20,7 +20,7 @@ use Rattle.judging.specs.Judged.{judged}
 use Rattle.session.specs.Answers.{answerTo, bytesAfter}
 use Rattle.settings.specs.Usual.{usual}
 use Rattle.session.proofs.AfterLaws.{no-ground, judged-is, after-view, refused-bytes}
-use Rattle.session.proofs.OperationLaws.{of-session}
+use Rattle.stepback.proofs.BackLaws.{of-session}
 use Rattle.standing.specs.Ordered.{Ordered}
 use Rattle.standing.proofs.KeptLaws.{is-session}
 

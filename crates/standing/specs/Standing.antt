@@ -21,7 +21,8 @@ use Rattle.store.specs.Lent.{Lent}
 use Rattle.store.specs.Stands.{viewOf, counterOf}
 use Rattle.entries.specs.Entry.{Entry, saved, undone}
 use Rattle.ledger.specs.Log.{logOf}
-use Rattle.session.specs.Answers.{answerTo, bytesAfter, backAnswer, backAfter}
+use Rattle.session.specs.Answers.{answerTo, bytesAfter}
+use Rattle.stepback.specs.Back.{backAnswer, backAfter}
 use Rattle.settings.specs.Usual.{usual}
 use Rattle.standing.specs.Said.{Reply, replyOf, said}
 

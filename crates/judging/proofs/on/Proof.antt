@@ -10,7 +10,7 @@ use Rattle.judging.proofs.on.Tie as tie
 
 returns : tie.Need-returns
 unfolding judged rule groundOf doneBy
-returns c =
+returns c settings =
     let a = c .before .before .before .before .before .args in
     c .on .ensures
     ∙ (λ i. let counter = c .before .counter .ensures i in

@@ -11,7 +11,7 @@ use Rattle.judging.proofs.release.Tie as tie
 
 returns : tie.Need-returns
 unfolding judged rule groundOf doneBy
-returns c =
+returns c settings =
     c .release .ensures
     ∙ (λ i. let counter = c .before .counter .ensures i in let named = c .before .before .find .ensures i in ruled counter (nameGround named 0) (released counter named))
 

@@ -1,7 +1,7 @@
 -- `host::questions::tell` meets its contract.
 use mathlib.Core.Path.{sym, _∙_}
 use borrow.Author.Tests.{not-true, not-false}
-use Rattle.session.proofs.OperationLaws.{of-session, of-none}
+use Rattle.stepback.proofs.BackLaws.{of-session, of-none}
 use Rattle.host.specs.Told.{numberAnswer}
 use borrow.Author.Needs.{needs}
 use Rattle.host.proofs.questions.tell.Statement.{statement}

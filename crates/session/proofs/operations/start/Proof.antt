@@ -4,7 +4,7 @@ use mathlib.Core.Bool.{cond}
 use borrow.Author.Tests.{not-true, not-false}
 use Rattle.store.specs.Emptied.{emptied}
 use Rattle.session.specs.Answers.{startAnswer, startAfter}
-use Rattle.session.proofs.OperationLaws.{of-session, of-none}
+use Rattle.stepback.proofs.BackLaws.{of-session, of-none}
 use borrow.Author.Needs.{needs}
 use Rattle.session.proofs.operations.start.Statement.{statement}
 use Rattle.session.proofs.operations.start.Tie as tie

@@ -2,7 +2,7 @@
 use mathlib.Core.Path.{_≡_, sym, _∙_}
 use borrow.Author.Tests.{not-true, not-false}
 use Rattle.session.specs.Answers.{endAnswerTo}
-use Rattle.session.proofs.OperationLaws.{of-session, of-none}
+use Rattle.stepback.proofs.BackLaws.{of-session, of-none}
 use borrow.Author.Needs.{needs}
 use Rattle.session.proofs.questions.end.Statement.{statement}
 use Rattle.session.proofs.questions.end.Tie as tie

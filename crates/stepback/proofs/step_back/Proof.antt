@@ -1,15 +1,15 @@
--- `session::operations::step_back` meets its contract.
+-- `stepback::step_back` meets its contract.
 use mathlib.Core.Path.{_≡_, sym, ap, _∙_}
 use native.Mathlib.Omega.{arith}
 use borrow.Author.Tests.{not-true, not-false}
 use Prim.Native.Nat.{ℕ, _-_}
 use Rattle.replay.specs.Demand3.{depth}
 use Rattle.rules.specs.Ruling.{acceptedWith}
-use Rattle.session.specs.Answers.{backAnswer}
-use Rattle.session.proofs.OperationLaws.{of-none, back-elsewhere, back-refused, back-taken}
+use Rattle.stepback.specs.Back.{backAnswer}
+use Rattle.stepback.proofs.BackLaws.{of-none, back-elsewhere, back-refused, back-taken}
 use borrow.Author.Needs.{needs}
-use Rattle.session.proofs.operations.step_back.Statement.{statement}
-use Rattle.session.proofs.operations.step_back.Tie as tie
+use Rattle.stepback.proofs.step_back.Statement.{statement}
+use Rattle.stepback.proofs.step_back.Tie as tie
 
 returns : tie.Need-returns
 unfolding backAnswer
