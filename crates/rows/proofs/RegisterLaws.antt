@@ -1,25 +1,30 @@
 -- Laws of the register's searches, for whatever is sought: what is found holds it, no row before it does, and nothing is found
 -- exactly where no row holds it.
-use Prim.Native.Nat.{ℕ, _≤_, _<_}
-use mathlib.Core.Bool.{Bool, true, false, not, _&&_, and-false, and-eq-true-iff}
+use Prim.Native.Nat.{ℕ, _+_, _*_, _≤_, _<_}
+use mathlib.Core.Bool.{Bool, true, false, not, _&&_, _||_, and-false, and-eq-true-iff}
 use mathlib.Core.List.{List}
-use mathlib.Core.Path.{_≡_, sym, ap, subst, _∙_}
+use mathlib.Core.Path.{_≡_, refl, sym, ap, subst, _∙_}
 use native.Mathlib.Omega.{arith}
-use borrow.Author.Tests.{eqb-true, eqb-false, not-true}
+use borrow.Author.Tests.{eqb-true, eqb-false, ne-eqb, not-true}
 use lib.Dec.{eqb}
+use Rattle.numbers.specs.Numbers.{numberAt}
 use Rattle.trains.specs.declared.found.Found.{Found}
 use Rattle.trains.specs.declared.found.Found.the-variants.{Nothing, Index}
 use Rattle.trains.specs.declared.kinds.Loco.{Loco}
 use Rattle.trains.specs.declared.kinds.Ticket.{Ticket}
 use Rattle.trains.specs.declared.record.Train.{Train}
-use Rattle.trains.specs.Kinds.{lastTicket, sameLoco, sameTicket, ticketInRange}
-use Rattle.trains.specs.Record.{noLoco}
+use Rattle.trains.specs.Kinds.{lastTicket, noLoco, sameLoco, sameTicket, ticketInRange}
+use Rattle.trains.specs.Record.{noTicket}
 use Rattle.trains.proofs.FoundLaws.{Before, first-below, first-true, first-before, first-none}
 use Rattle.trains.proofs.RangeLaws.{one-to}
 use Rattle.trains.specs.declared.sought.Sought.{Sought}
 use Rattle.trains.specs.declared.sought.Sought.the-variants.{Pair, Number, Empty}
 use Rattle.trains.specs.Sought.{rowCount, holdsLoco, isSought}
-use Rattle.rows.specs.Register.{rowOf, locoSought, soughtAt, foundIn}
+use Rattle.trains.specs.Found.{first}
+use Rattle.rows.specs.Row.{rowBytes}
+use Rattle.rows.specs.Register.{rowOf, rowHolds, searched, soughtAt, foundIn}
+use Rattle.rows.proofs.Bytewise.{at-bit}
+use Rattle.rows.proofs.RowLaws.{row-parts}
 
 module _ (s : List ℕ) (at : ℕ) (sought : Sought) where
   -- what is found is one of the 24 rows
@@ -59,11 +64,6 @@ holds-loco-means l wanted e =
     let both = and-eq-true-iff (not (sameLoco l noLoco)) (sameLoco l wanted) .0 e in
     (eqb-true (l .0) (wanted .0) (both .1), eqb-false (l .0) 0 (not-true (eqb (l .0) 0) (both .0)))
 
--- a row with another loco does not hold the one wanted
-holds-none : (l wanted : Loco) → sameLoco l wanted ≡ false → holdsLoco l wanted ≡ false
-unfolding holdsLoco
-holds-none l wanted e = ap (λ (b : Bool). not (sameLoco l noLoco) && b) e ∙ and-false (not (sameLoco l noLoco))
-
 -- a loco and a ticket together
 pub pair-means : (loco : Loco) (ticket : Ticket) (t : Train) → isSought (Pair loco ticket) t ≡ true
     → ((t .loco .0 ≡ loco .0) × (t .loco .0 ≡ 0 → ⊥)) × ((t .ticket .0 ≡ ticket .0) × ((1 ≤ ticket .0) × (ticket .0 ≤ lastTicket)))
@@ -78,9 +78,69 @@ pub empty-means : (t : Train) → isSought Empty t ≡ true → t .loco .0 ≡ 0
 unfolding isSought
 empty-means t e = eqb-true (t .loco .0) 0 e
 
--- a row with another loco does not hold what is sought
-pub other-loco : (sought : Sought) (t : Train) → sameLoco (t .loco) (locoSought sought) ≡ false → isSought sought t ≡ false
-unfolding isSought locoSought
-other-loco (Pair loco ticket) t e = ap (λ (b : Bool). b && ticketInRange ticket && sameTicket (t .ticket) ticket) (holds-none (t .loco) loco e)
-other-loco (Number loco) t e = holds-none (t .loco) loco e
-other-loco Empty t e = e
+-- ---- the rows by their numbers
+
+-- the loco number of row i is its first number
+pub loco-word : (s : List ℕ) (at i : ℕ) → numberAt 4 s (at + rowBytes * i + 0) ≡ rowOf s at i .loco .0
+loco-word s at i =
+    at-bit 4 s (at + rowBytes * i + 0) (8 * (at + rowBytes * i)) (omega arith) ∙ sym (ap (λ (t : Train). t .loco .0) (row-parts s (at + rowBytes * i)))
+
+-- its ticket is the next
+pub ticket-word : (s : List ℕ) (at i : ℕ) → numberAt 4 s (at + rowBytes * i + 4) ≡ rowOf s at i .ticket .0
+ticket-word s at i = sym (ap (λ (t : Train). t .ticket .0) (row-parts s (at + rowBytes * i)))
+
+-- rows with a loco and a ticket are those that hold what is sought, where that is so of every record
+pub searched-sought : (s : List ℕ) (at : ℕ) (loco : Loco) (ticket : Ticket) (sought : Sought)
+    → ((t : Train) → sameLoco (t .loco) loco && (sameTicket ticket noTicket || sameTicket (t .ticket) ticket) ≡ isSought sought t)
+    → searched s at loco ticket ≡ foundIn s at sought
+unfolding searched rowHolds foundIn soughtAt
+searched-sought s at loco ticket sought h = λ i. first (λ (k : ℕ). h (rowOf s at k) i) 0 rowCount
+
+-- no row holds the loco number of an empty row
+none-held : (l wanted : Loco) → sameLoco wanted noLoco ≡ true → holdsLoco l wanted ≡ false
+unfolding holdsLoco
+none-held l wanted e = rw (eqb-true (wanted .0) 0 e) (go (eqb (l .0) 0))
+  where
+    go : (b : Bool) → not b && b ≡ false
+    go true = refl
+    go false = refl
+
+-- another one is held where it is the row's
+held : (l wanted : Loco) → sameLoco wanted noLoco ≡ false → holdsLoco l wanted ≡ sameLoco l wanted
+unfolding holdsLoco
+held l wanted e = go (sameLoco l wanted) refl
+  where
+    go : (b : Bool) → sameLoco l wanted ≡ b → not (sameLoco l noLoco) && b ≡ b
+    go true q = rw (eqb-true (l .0) (wanted .0) q, e) refl
+    go false q = and-false (not (sameLoco l noLoco))
+
+pub number-none : (loco : Loco) (t : Train) → sameLoco loco noLoco ≡ true → isSought (Number loco) t ≡ false
+unfolding isSought
+number-none loco t e = none-held (t .loco) loco e
+
+pub pair-none : (loco : Loco) (ticket : Ticket) (t : Train) → sameLoco loco noLoco ≡ true → isSought (Pair loco ticket) t ≡ false
+unfolding isSought
+pair-none loco ticket t e = ap (λ (b : Bool). b && ticketInRange ticket && sameTicket (t .ticket) ticket) (none-held (t .loco) loco e)
+
+pub pair-out : (loco : Loco) (ticket : Ticket) (t : Train) → ticketInRange ticket ≡ false → isSought (Pair loco ticket) t ≡ false
+unfolding isSought
+pair-out loco ticket t e = rw (e, and-false (holdsLoco (t .loco) loco)) refl
+
+and-true : (b : Bool) → b && true ≡ b
+and-true true = refl
+and-true false = refl
+
+pub empty-same : (t : Train) → sameLoco (t .loco) noLoco && true ≡ isSought Empty t
+unfolding isSought
+empty-same t = and-true (sameLoco (t .loco) noLoco)
+
+pub number-same : (loco : Loco) → sameLoco loco noLoco ≡ false → (t : Train) → sameLoco (t .loco) loco && true ≡ isSought (Number loco) t
+unfolding isSought
+number-same loco e t = and-true (sameLoco (t .loco) loco) ∙ sym (held (t .loco) loco e)
+
+pub pair-same : (loco : Loco) (ticket : Ticket) → sameLoco loco noLoco ≡ false → ticketInRange ticket ≡ true
+    → (t : Train) → sameLoco (t .loco) loco && (sameTicket ticket noTicket || sameTicket (t .ticket) ticket) ≡ isSought (Pair loco ticket) t
+unfolding isSought
+pair-same loco ticket e r t =
+    let n : sameTicket ticket noTicket ≡ false = ne-eqb (ticket .0) 0 (λ z. omega (arith, one-to lastTicket (ticket .0) r .0)) in
+    rw (n, held (t .loco) loco e, r, and-true (sameLoco (t .loco) loco)) refl

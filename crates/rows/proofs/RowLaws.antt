@@ -1,6 +1,6 @@
 -- Laws of rows.
 use Prim.Native.Nat.{ℕ, zero, suc, _+_, _-_, _*_, _≤_, _<_, min}
-use mathlib.Core.List.{List, []}
+use mathlib.Core.List.{List, [], _++_}
 use mathlib.Core.Logic.{⊎-elim, _⊎_, inl, inr}
 use mathlib.Core.Path.{_≡_, refl, sym, ap, _∙_}
 use native.Mathlib.Omega.{arith}
@@ -11,10 +11,11 @@ use Rattle.numbers.specs.Fields.{bitAt, field}
 use Rattle.numbers.specs.Pieces.{total, unpack, pack}
 use Rattle.numbers.proofs.FieldLaws.{Bytes, same-byte, field-byte, lt-or-le}
 use Rattle.numbers.proofs.PieceLaws.{length-pack, bytes-pack, bit-pack-out, unpack-pack}
+use Rattle.trains.specs.declared.record.Order.{Order}
 use Rattle.trains.specs.declared.record.Train.{Train}
-use Rattle.trains.specs.Record.{blankTrain}
-use Rattle.rows.specs.Parts.{bits, trackSizes, ordersSizes, trackOf, ordersOf, trackValues, ordersValues, locationBy, limitBy, positionBy}
-use Rattle.rows.specs.Row.{rowBytes, headSizes, headValues, rowAt, putRow, rowSizes, rowValues, trainOf}
+use Rattle.trains.specs.Record.{orderCount, orderAt, blankTrain}
+use Rattle.rows.specs.Parts.{bits, trackSizes, orderSizes, ordersSizes, trackOf, ordersOf, trackValues, orderValues, ordersValues, locationBy, limitBy, positionBy}
+use Rattle.rows.specs.Row.{rowBytes, trackStart, ordersStart, headSizes, headValues, rowAt, putRow, rowSizes, rowValues, trainOf}
 use Rattle.rows.proofs.Bytewise.{unpack-past, pack-past, field-same, unpack-same, pack-same, bit-of-byte}
 use Rattle.rows.proofs.FitLaws.{Fits, row-fit, train-back}
 
@@ -49,18 +50,36 @@ row-parts s at =
     let h : p + 32 + 32 + 8 + 8 + 8 + 8 + 8 + 32 + 32 + 8 + 32 + 8 + 32 ≡ 8 * (at + 31) = omega arith in
     λ i. rowFrom s p (b i) (c i) (d i) (e i) (f i) (g i) (h i)
 
--- a row is put by its parts, one behind the other
-pub put-parts : (s : List ℕ) (at : ℕ) (t : Train)
-    → putRow s at t
-    ≡ pack (pack (pack s (8 * at) (bits headSizes) (headValues t)) (8 * (at + 12)) (bits trackSizes) (trackValues (t .track)))
-    (8 * (at + 31)) (bits ordersSizes) (ordersValues (t .orders))
-unfolding putRow pack
-put-parts s at t =
-    let p : ℕ = 8 * at in
-    let g : p + 32 + 32 + 8 + 8 + 8 + 8 ≡ 8 * (at + 12) = omega arith in
-    let h : p + 32 + 32 + 8 + 8 + 8 + 8 + 8 + 32 + 32 + 8 + 32 + 8 + 32 ≡ 8 * (at + 31) = omega arith in
-    λ i. pack (pack (pack s p (bits headSizes) (headValues t)) (g i) (bits trackSizes) (trackValues (t .track)))
-    (h i) (bits ordersSizes) (ordersValues (t .orders))
+-- the sizes of the last n orders
+unfoldable pub sizesLeft : ℕ → List ℕ
+sizesLeft zero = []
+sizesLeft (suc n) = orderSizes ++ sizesLeft n
+
+-- the numbers of the orders from place k on, n of them
+unfoldable pub valuesLeft : List Order → ℕ → ℕ → List ℕ
+valuesLeft os k zero = []
+valuesLeft os k (suc n) = orderValues (orderAt os k) ++ valuesLeft os (suc k) n
+
+-- the order at place k put, and then those behind it
+pub order-next : (os : List Order) (k : ℕ) (s t : List ℕ) → k < orderCount
+    → t ≡ pack s (8 * (ordersStart + 9 * k)) (bits orderSizes) (orderValues (orderAt os k))
+    → pack s (8 * (ordersStart + 9 * k)) (bits (sizesLeft (orderCount - k))) (valuesLeft os k (orderCount - k))
+    ≡ pack t (8 * (ordersStart + 9 * (k + 1))) (bits (sizesLeft (orderCount - (k + 1)))) (valuesLeft os (k + 1) (orderCount - (k + 1)))
+unfolding pack sizesLeft valuesLeft
+order-next os k s t h e =
+    let n : ℕ = orderCount - (k + 1) in
+    let z : orderCount - k ≡ suc n = omega arith in
+    let p : ℕ = 8 * (ordersStart + 9 * k) in
+    let q : p + 32 + 8 + 32 ≡ 8 * (ordersStart + 9 * (k + 1)) = omega arith in
+    let l : suc k ≡ k + 1 = omega arith in
+    (λ i. pack s p (bits (sizesLeft (z i))) (valuesLeft os k (z i)))
+    ∙ (λ i. pack (sym e i) (q i) (bits (sizesLeft n)) (valuesLeft os (l i) n))
+
+-- where none is left nothing is put
+pub order-end : (os : List Order) (k : ℕ) (s : List ℕ) (p : ℕ) → orderCount ≤ k
+    → pack s p (bits (sizesLeft (orderCount - k))) (valuesLeft os k (orderCount - k)) ≡ s
+unfolding pack sizesLeft valuesLeft
+order-end os k s p h = let z : orderCount - k ≡ 0 = omega arith in λ i. pack s p (bits (sizesLeft (z i))) (valuesLeft os k (z i))
 
 -- ---- past the end
 
@@ -141,6 +160,23 @@ byte-apart s at t i hs h =
 abbrev pub rowImage : Train → List ℕ
 rowImage t = putRow (replicate rowBytes 0) 0 t
 
+image-long : (t : Train) → length (rowImage t) ≡ rowBytes
+image-long t = length-put-row (replicate rowBytes 0) 0 t ∙ length-replicate {A = ℕ} rowBytes 0
+
+-- they are put by their parts, one behind the other: x is the head, y the track behind it, z the orders behind both
+module _ (t : Train) (x y z : List ℕ) (ex : x ≡ pack (replicate rowBytes 0) 0 (bits headSizes) (headValues t))
+    (ey : y ≡ pack x (8 * trackStart) (bits trackSizes) (trackValues (t .track)))
+    (ez : z ≡ pack y (8 * ordersStart) (bits ordersSizes) (ordersValues (t .orders))) where
+  pub row-made : z ≡ rowImage t
+  unfolding putRow pack
+  row-made =
+      ez
+      ∙ (λ k. pack ((ey ∙ (λ j. pack (ex j) (8 * trackStart) (bits trackSizes) (trackValues (t .track)))) k)
+      (8 * ordersStart) (bits ordersSizes) (ordersValues (t .orders)))
+
+  pub made-long : rowBytes ≡ length z
+  made-long = sym (ap length row-made ∙ image-long t)
+
 put-bit : (s u : List ℕ) (a b : ℕ) (t : Train) (i k : ℕ) → a + i < length s → b + i < length u → i < rowBytes → k < 8
     → bitAt (putRow s a t) (8 * (a + i) + k) ≡ bitAt (putRow u b t) (8 * (b + i) + k)
 unfolding putRow
@@ -174,10 +210,9 @@ row-image s at t hs h =
     let z : List ℕ = replicate rowBytes 0 in
     let lz : length z ≡ rowBytes = length-replicate {A = ℕ} rowBytes 0 in
     let lp : length (putRow s at t) ≡ length s = length-put-row s at t in
-    let li : length (rowImage t) ≡ rowBytes = length-put-row z 0 t ∙ lz in
     let lt : length (take rowBytes (drop at (putRow s at t))) ≡ rowBytes =
     length-take rowBytes (drop at (putRow s at t)) ∙ rw (length-drop, lp) (omega arith) in
-    ext-getD 0 (take rowBytes (drop at (putRow s at t))) (rowImage t) (lt ∙ sym li)
+    ext-getD 0 (take rowBytes (drop at (putRow s at t))) (rowImage t) (lt ∙ sym (image-long t))
     (λ i l.
     let m : i < rowBytes = omega arith in
     getD-take rowBytes (drop at (putRow s at t)) i 0 m
@@ -222,7 +257,7 @@ image-copied s at t hs =
     lz = length-replicate {A = ℕ} rowBytes 0
 
     lv : length v ≡ rowBytes
-    lv = length-take rowBytes (rowImage t) ∙ rw (length-put-row z 0 t, lz) refl
+    lv = length-take rowBytes (rowImage t) ∙ rw (image-long t) refl
 
     byte : (j : ℕ) → j < length s → (j < at) ⊎ (at ≤ j) → (j < at + rowBytes) ⊎ (at + rowBytes ≤ j)
         → getD (sets s at v) j 0 ≡ getD (putRow s at t) j 0

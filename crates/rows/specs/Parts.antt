@@ -21,9 +21,9 @@ bits sizes = map (λ (n : ℕ). 8 * n) sizes
 
 -- ---- sizes in bytes
 
--- a location: its flag and its metres
-abbrev pub locationSizes : List ℕ
-locationSizes = 1 ∷ 4 ∷ []
+-- a location, or a limit: its flag and its metres
+abbrev pub flaggedSizes : List ℕ
+flaggedSizes = 1 ∷ 4 ∷ []
 
 -- a position: its flag, front and rear
 abbrev pub positionSizes : List ℕ
@@ -31,11 +31,11 @@ positionSizes = 1 ∷ 4 ∷ 4 ∷ []
 
 -- the track: the position, the granted end, the danger location
 abbrev pub trackSizes : List ℕ
-trackSizes = positionSizes ++ (locationSizes ++ locationSizes)
+trackSizes = positionSizes ++ (flaggedSizes ++ flaggedSizes)
 
--- an order: the other train's ticket, the limit's flag and the limit
+-- an order: the other train's ticket, and the limit
 abbrev pub orderSizes : List ℕ
-orderSizes = 4 ∷ 1 ∷ 4 ∷ []
+orderSizes = 4 ∷ flaggedSizes
 
 -- four orders
 abbrev pub ordersSizes : List ℕ
@@ -90,9 +90,13 @@ positionValues p = positionFlag p ∷ positionFront p ∷ positionRear p ∷ []
 abbrev pub trackValues : Track → List ℕ
 trackValues k = positionValues (k .position) ++ (locationValues (k .granted) ++ locationValues (k .danger))
 
+-- the numbers of a limit
+abbrev pub limitValues : Limit → List ℕ
+limitValues l = limitFlag l ∷ limitNumber l ∷ []
+
 -- the numbers of an order
 abbrev pub orderValues : Order → List ℕ
-orderValues o = o .other .0 ∷ limitFlag (o .limit) ∷ limitNumber (o .limit) ∷ []
+orderValues o = o .other .0 ∷ limitValues (o .limit)
 
 -- the numbers of four orders
 abbrev pub ordersValues : List Order → List ℕ
@@ -117,17 +121,25 @@ positionBy flag front rear = cond (eqb flag 0) Unknown (Between front rear)
 abbrev pub locationOf : List ℕ → Location
 locationOf vs = locationBy (getD vs 0 0) (getD vs 1 0)
 
+-- the limit that numbers read as
+abbrev pub limitOf : List ℕ → Limit
+limitOf vs = limitBy (getD vs 0 0) (getD vs 1 0)
+
+-- the position that numbers read as
+abbrev pub positionOf : List ℕ → Position
+positionOf vs = positionBy (getD vs 0 0) (getD vs 1 0) (getD vs 2 0)
+
 -- the track that numbers read as
 abbrev pub trackOf : List ℕ → Track
 trackOf vs = record {
-  position = positionBy (getD vs 0 0) (getD vs 1 0) (getD vs 2 0);
+  position = positionOf vs;
   granted = locationOf (drop 3 vs);
   danger = locationOf (drop 5 vs);
 }
 
 -- the order that numbers read as
 abbrev pub orderOf : List ℕ → Order
-orderOf vs = record { other = record { 0 = getD vs 0 0 }; limit = limitBy (getD vs 1 0) (getD vs 2 0) }
+orderOf vs = record { other = record { 0 = getD vs 0 0 }; limit = limitOf (drop 1 vs) }
 
 -- the four orders that numbers read as
 abbrev pub ordersOf : List ℕ → List Order

@@ -1,5 +1,5 @@
 -- The register of 24 rows, and the three searches of it.
-use mathlib.Core.Bool.{Bool}
+use mathlib.Core.Bool.{Bool, _&&_, _||_}
 use mathlib.Core.List.{List}
 use Prim.Native.Nat.{ℕ, _+_, _*_}
 use Rattle.trains.specs.declared.found.Found.{Found}
@@ -7,7 +7,8 @@ use Rattle.trains.specs.declared.kinds.Loco.{Loco}
 use Rattle.trains.specs.declared.kinds.Ticket.{Ticket}
 use Rattle.trains.specs.declared.record.Train.{Train}
 use Rattle.trains.specs.Found.{first}
-use Rattle.trains.specs.Record.{noLoco}
+use Rattle.trains.specs.Kinds.{sameLoco, sameTicket}
+use Rattle.trains.specs.Record.{noTicket}
 use Rattle.trains.specs.Sought.{rowCount, isSought}
 use Rattle.trains.specs.declared.sought.Sought.{Sought}
 use Rattle.trains.specs.declared.sought.Sought.the-variants.{Pair, Number, Empty}
@@ -17,11 +18,14 @@ use Rattle.rows.specs.Row.{rowBytes, rowAt}
 abbrev pub rowOf : List ℕ → ℕ → ℕ → Train
 rowOf s at i = rowAt s (at + rowBytes * i)
 
--- the loco number of a row that holds what is sought
-unfoldable pub locoSought : Sought → Loco
-locoSought (Pair loco ticket) = loco
-locoSought (Number loco) = loco
-locoSought Empty = noLoco
+-- row i has a loco number, and a ticket where one is asked for
+unfoldable pub rowHolds : List ℕ → ℕ → Loco → Ticket → ℕ → Bool
+rowHolds s at loco ticket i =
+    sameLoco (rowOf s at i .loco) loco && (sameTicket ticket noTicket || sameTicket (rowOf s at i .ticket) ticket)
+
+-- the first such row
+unfoldable pub searched : List ℕ → ℕ → Loco → Ticket → Found
+searched s at loco ticket = first (rowHolds s at loco ticket) 0 rowCount
 
 -- row i of the register holds what is sought
 unfoldable pub soughtAt : List ℕ → ℕ → Sought → ℕ → Bool

@@ -10,6 +10,13 @@ use Rattle.rows.specs.Parts.{bits, trackSizes, ordersSizes, trackValues,
 abbrev pub rowBytes : ℕ
 rowBytes = 67
 
+-- where the track starts in a row, and where the orders do
+abbrev pub trackStart : ℕ
+trackStart = 12
+
+abbrev pub ordersStart : ℕ
+ordersStart = 31
+
 -- loco, ticket, start, slots, mode, mode left
 abbrev pub headSizes : List ℕ
 headSizes = 4 ∷ 4 ∷ 1 ∷ 1 ∷ 1 ∷ 1 ∷ []

@@ -1,80 +1,47 @@
 // The register: 24 rows, one behind the other, from a byte of the lent bytes on. A search looks at the rows in order.
+use crate::row;
 use trains::found::Found;
 use trains::kinds::Loco;
 use trains::kinds::Ticket;
 use trains::sought::ROWS;
-use trains::sought::Sought;
 ghost use mathlib.Core.Path.{_≡_};
-ghost use Prim.Native.Nat.{_<_};
-ghost use Rattle.trains.specs.Sought.{rowCount, isSought};
-ghost use Rattle.trains.specs.declared.sought.Sought.the-variants.{Pair};
-ghost use Rattle.rows.specs.Register.{rowOf, locoSought, foundIn, findTrain, findLoco, findEmpty};
+ghost use Prim.Native.Nat.{_+_, _*_, _<_};
+ghost use Rattle.numbers.specs.Numbers.{numberAt};
+ghost use Rattle.trains.specs.Sought.{rowCount};
+ghost use Rattle.rows.specs.Row.{rowBytes};
+ghost use Rattle.rows.specs.Register.{rowHolds, searched, findTrain, findLoco, findEmpty};
 
-fn loco_of(register: &[u8], at: usize, i: usize) -> Loco
-    requires { ⌜ i < rowCount ⌝ }
-    ensures { λ r. ⌜ r ≡ rowOf (now (register .entry)) at i .loco ⌝ }
+// The number of 4 bytes at a byte of row i.
+fn word_in(register: &[u8], at: usize, i: usize, offset: usize) -> u32
+    requires { ⌜ (i < rowCount) × (offset < rowBytes) ⌝ }
+    ensures { λ r. ⌜ r ≡ numberAt 4 (now (register .entry)) (at + rowBytes * i + offset) ⌝ }
 {
     if register.len() <= at {
-        return Loco(0);
+        return 0;
     }
-    Loco(numbers::word_at(register, at + crate::row::ROW * i))
+    numbers::word_at(register, at + row::ROW * i + offset)
 }
 
-fn ticket_of(register: &[u8], at: usize, i: usize) -> Ticket
+// Does row i have this loco number, and this ticket? Ticket 0 asks for no ticket. Most rows have another loco, and are passed by that alone.
+fn row_holds(register: &[u8], at: usize, i: usize, loco: Loco, ticket: Ticket) -> bool
     requires { ⌜ i < rowCount ⌝ }
-    ensures { λ r. ⌜ r ≡ rowOf (now (register .entry)) at i .ticket ⌝ }
+    ensures { λ r. ⌜ r ≡ rowHolds (now (register .entry)) at loco ticket i ⌝ }
 {
-    if register.len() <= at {
-        return Ticket(0);
-    }
-    Ticket(numbers::word_at(register, at + crate::row::ROW * i + 4))
-}
-
-// A ticket out of range names no train.
-fn holds_pair(register: &[u8], at: usize, i: usize, loco: Loco, ticket: Ticket) -> bool
-    requires { ⌜ i < rowCount ⌝ }
-    ensures { λ r. ⌜ r ≡ isSought (Pair loco ticket) (rowOf (now (register .entry)) at i) ⌝ }
-{
-    if !loco_of(register, at, i).holds(loco) {
+    if !Loco(word_in(register, at, i, row::LOCO)).is(loco) {
         return false;
     }
-    if !ticket.in_range() {
-        return false;
+    if ticket.is(Ticket(0)) {
+        return true;
     }
-    ticket_of(register, at, i).is(ticket)
+    Ticket(word_in(register, at, i, row::TICKET)).is(ticket)
 }
 
-fn loco_sought(sought: Sought) -> Loco
-    ensures { λ r. ⌜ r ≡ locoSought sought ⌝ }
-{
-    match sought {
-        Sought::Pair(loco, _) => loco,
-        Sought::Number(loco) => loco,
-        Sought::Empty => Loco(0),
-    }
-}
-
-// Does row i hold what is sought? Most rows have another loco, and are passed by that alone.
-fn row_holds(register: &[u8], at: usize, i: usize, sought: Sought) -> bool
-    requires { ⌜ i < rowCount ⌝ }
-    ensures { λ r. ⌜ r ≡ isSought sought (rowOf (now (register .entry)) at i) ⌝ }
-{
-    if !loco_of(register, at, i).is(loco_sought(sought)) {
-        return false;
-    }
-    match sought {
-        Sought::Pair(loco, ticket) => holds_pair(register, at, i, loco, ticket),
-        Sought::Number(loco) => loco_of(register, at, i).holds(loco),
-        Sought::Empty => loco_of(register, at, i).is(Loco(0)),
-    }
-}
-
-fn search(register: &[u8], at: usize, sought: Sought) -> Found
-    ensures { λ r. ⌜ r ≡ foundIn (now (register .entry)) at sought ⌝ }
+fn search(register: &[u8], at: usize, loco: Loco, ticket: Ticket) -> Found
+    ensures { λ r. ⌜ r ≡ searched (now (register .entry)) at loco ticket ⌝ }
 {
     let mut i: usize = 0;
     while i < ROWS {
-        if row_holds(register, at, i, sought) {
+        if row_holds(register, at, i, loco, ticket) {
             return Found::Index(i);
         }
         i += 1;
@@ -82,23 +49,32 @@ fn search(register: &[u8], at: usize, sought: Sought) -> Found
     Found::Nothing
 }
 
-// The first row that holds a loco and a ticket together.
+// The first row that holds a loco and a ticket together. The loco number of an empty row and a ticket out of range name no train.
 pub fn find(register: &[u8], at: usize, loco: Loco, ticket: Ticket) -> Found
     ensures { λ r. ⌜ r ≡ findTrain (now (register .entry)) at loco ticket ⌝ }
 {
-    search(register, at, Sought::Pair(loco, ticket))
+    if loco.is_none() {
+        return Found::Nothing;
+    }
+    if !ticket.in_range() {
+        return Found::Nothing;
+    }
+    search(register, at, loco, ticket)
 }
 
 // The first row with a loco number.
 pub fn find_loco(register: &[u8], at: usize, loco: Loco) -> Found
     ensures { λ r. ⌜ r ≡ findLoco (now (register .entry)) at loco ⌝ }
 {
-    search(register, at, Sought::Number(loco))
+    if loco.is_none() {
+        return Found::Nothing;
+    }
+    search(register, at, loco, Ticket(0))
 }
 
 // The first empty row.
 pub fn find_empty(register: &[u8], at: usize) -> Found
     ensures { λ r. ⌜ r ≡ findEmpty (now (register .entry)) at ⌝ }
 {
-    search(register, at, Sought::Empty)
+    search(register, at, Loco(0), Ticket(0))
 }

@@ -2,6 +2,7 @@
 use trains::kinds::Loco;
 use trains::kinds::Slot;
 use trains::kinds::Ticket;
+use trains::orders;
 use trains::record::Limit;
 use trains::record::Location;
 use trains::record::Order;
@@ -9,21 +10,21 @@ use trains::record::Position;
 use trains::record::Track;
 use trains::record::Train;
 ghost use mathlib.Core.Path.{_≡_};
+ghost use mathlib.Core.List.{[], _∷_};
 ghost use Prim.Native.Nat.{_+_, _*_, _^_, _<_};
-ghost use lib.ListN.{replicate};
 ghost use Rattle.numbers.specs.Pieces.{unpack, pack};
-ghost use Rattle.rows.specs.Parts.{bits, locationSizes, positionSizes, trackSizes, orderSizes, ordersSizes, locationBy, limitBy, positionBy, locationOf, trackOf, orderOf, ordersOf};
-ghost use Rattle.rows.specs.Parts.{locationFlag, locationNumber, limitFlag, limitNumber, positionFlag, positionFront, positionRear, locationValues, positionValues, trackValues, orderValues, ordersValues};
-ghost use Rattle.rows.specs.Row.{rowBytes, headSizes, headValues, rowAt, putRow};
+ghost use Rattle.rows.specs.Parts.{bits, flaggedSizes, positionSizes, trackSizes, orderSizes, ordersSizes, locationOf, limitOf, positionOf, trackOf, orderOf, ordersOf};
+ghost use Rattle.rows.specs.Parts.{locationValues, limitValues, positionValues, trackValues, orderValues, ordersValues};
+ghost use Rattle.rows.specs.Row.{trackStart, ordersStart, headSizes, headValues, rowAt, putRow};
 
 const BYTE: usize = 1;
 
 const WORD: usize = 4;
 
 // Offsets in a row, each worked out from the one before it: the head's numbers, the track, and the orders.
-const LOCO: usize = 0;
+pub const LOCO: usize = 0;
 
-const TICKET: usize = LOCO + WORD;
+pub const TICKET: usize = LOCO + WORD;
 
 const START: usize = TICKET + WORD;
 
@@ -33,76 +34,70 @@ const MODE: usize = SLOTS + BYTE;
 
 const LEFT: usize = MODE + BYTE;
 
-const TRACK: usize = LEFT + BYTE;
+const POSITION: usize = LEFT + BYTE;
 
-const ORDERS: usize = TRACK + TRACK_BYTES;
-
-// The bytes of a row.
-pub const ROW: usize = ORDERS + ORDERS_BYTES;
-
-// In a location: its flag and its number.
-const NUMBER: usize = BYTE;
-
-const LOCATION_BYTES: usize = NUMBER + WORD;
-
-// In a track: the position's flag, front and rear, the granted end, the danger location.
-const FRONT: usize = BYTE;
+const FRONT: usize = POSITION + BYTE;
 
 const REAR: usize = FRONT + WORD;
 
 const GRANTED: usize = REAR + WORD;
 
-const DANGER: usize = GRANTED + LOCATION_BYTES;
+const DANGER: usize = GRANTED + FLAGGED;
 
-const TRACK_BYTES: usize = DANGER + LOCATION_BYTES;
+const ORDERS: usize = DANGER + FLAGGED;
 
-// In an order: the other train's ticket, the limit's flag and the limit.
-const LIMITED: usize = WORD;
+const SECOND: usize = ORDERS + ORDER;
 
-const LIMIT: usize = LIMITED + BYTE;
+const THIRD: usize = SECOND + ORDER;
 
-const ORDER_BYTES: usize = LIMIT + WORD;
+const FOURTH: usize = THIRD + ORDER;
 
-// The second, third and fourth order behind the first.
-const SECOND: usize = ORDER_BYTES;
+// The bytes of a row.
+pub const ROW: usize = FOURTH + ORDER;
 
-const THIRD: usize = SECOND + ORDER_BYTES;
+// A flag and a number: a location, a limit, the front of a position.
+const FLAGGED: usize = BYTE + WORD;
 
-const FOURTH: usize = THIRD + ORDER_BYTES;
+// The other train's ticket, and the limit.
+const ORDER: usize = WORD + FLAGGED;
 
-const ORDERS_BYTES: usize = FOURTH + ORDER_BYTES;
-
-fn location_by(flag: u32, x: u32) -> Location
-    ensures { λ r. ⌜ r ≡ locationBy flag x ⌝ }
-{
-    if flag == 0 {
-        Location::Nowhere
-    } else {
-        Location::At(x)
-    }
-}
-
-fn limit_by(flag: u32, x: u32) -> Limit
-    ensures { λ r. ⌜ r ≡ limitBy flag x ⌝ }
-{
-    if flag == 0 { Limit::Bare } else { Limit::To(x) }
-}
-
-fn position_by(flag: u32, front: u32, rear: u32) -> Position
-    ensures { λ r. ⌜ r ≡ positionBy flag front rear ⌝ }
-{
-    if flag == 0 {
-        Position::Unknown
-    } else {
-        Position::Between(front, rear)
-    }
-}
-
-fn location_at(s: &[u8; ROW], i: usize) -> Location
+fn location_at(s: &[u8], i: usize) -> Location
     requires { ⌜ i + 5 < 2 ^ 64 ⌝ }
-    ensures { λ r. ⌜ r ≡ locationOf (unpack (now (s .entry)) (8 * i) (bits locationSizes)) ⌝ }
+    ensures { λ r. ⌜ r ≡ locationOf (unpack (now (s .entry)) (8 * i) (bits flaggedSizes)) ⌝ }
 {
-    location_by(numbers::byte_at(s, i), numbers::word_at(s, i + NUMBER))
+    if numbers::byte_at(s, i) == 0 {
+        return Location::Nowhere;
+    }
+    Location::At(numbers::word_at(s, i + BYTE))
+}
+
+fn limit_at(s: &[u8], i: usize) -> Limit
+    requires { ⌜ i + 5 < 2 ^ 64 ⌝ }
+    ensures { λ r. ⌜ r ≡ limitOf (unpack (now (s .entry)) (8 * i) (bits flaggedSizes)) ⌝ }
+{
+    if numbers::byte_at(s, i) == 0 {
+        return Limit::Bare;
+    }
+    Limit::To(numbers::word_at(s, i + BYTE))
+}
+
+fn position_at(s: &[u8]) -> Position
+    ensures { λ r. ⌜ r ≡ positionOf (unpack (now (s .entry)) (8 * trackStart) (bits positionSizes)) ⌝ }
+{
+    if numbers::byte_at(s, POSITION) == 0 {
+        return Position::Unknown;
+    }
+    Position::Between(numbers::word_at(s, FRONT), numbers::word_at(s, REAR))
+}
+
+fn track_at(s: &[u8; ROW]) -> Track
+    ensures { λ r. ⌜ r ≡ trackOf (unpack (now (s .entry)) (8 * trackStart) (bits trackSizes)) ⌝ }
+{
+    Track {
+        position: position_at(s),
+        granted: location_at(s, GRANTED),
+        danger: location_at(s, DANGER),
+    }
 }
 
 fn order_at(s: &[u8; ROW], i: usize) -> Order
@@ -111,37 +106,18 @@ fn order_at(s: &[u8; ROW], i: usize) -> Order
 {
     Order {
         other: Ticket(numbers::word_at(s, i)),
-        limit: limit_by(
-            numbers::byte_at(s, i + LIMITED),
-            numbers::word_at(s, i + LIMIT),
-        ),
+        limit: limit_at(s, i + WORD),
     }
 }
 
-fn track_at(s: &[u8; ROW], i: usize) -> Track
-    requires { ⌜ i + 19 < 2 ^ 64 ⌝ }
-    ensures { λ r. ⌜ r ≡ trackOf (unpack (now (s .entry)) (8 * i) (bits trackSizes)) ⌝ }
-{
-    Track {
-        position: position_by(
-            numbers::byte_at(s, i),
-            numbers::word_at(s, i + FRONT),
-            numbers::word_at(s, i + REAR),
-        ),
-        granted: location_at(s, i + GRANTED),
-        danger: location_at(s, i + DANGER),
-    }
-}
-
-fn orders_at(s: &[u8; ROW], i: usize) -> [Order; 4]
-    requires { ⌜ i + 36 < 2 ^ 64 ⌝ }
-    ensures { λ r. ⌜ r ≡ ordersOf (unpack (now (s .entry)) (8 * i) (bits ordersSizes)) ⌝ }
+fn orders_at(s: &[u8; ROW]) -> [Order; 4]
+    ensures { λ r. ⌜ r ≡ ordersOf (unpack (now (s .entry)) (8 * ordersStart) (bits ordersSizes)) ⌝ }
 {
     [
-        order_at(s, i),
-        order_at(s, i + SECOND),
-        order_at(s, i + THIRD),
-        order_at(s, i + FOURTH),
+        order_at(s, ORDERS),
+        order_at(s, SECOND),
+        order_at(s, THIRD),
+        order_at(s, FOURTH),
     ]
 }
 
@@ -149,8 +125,6 @@ fn orders_at(s: &[u8; ROW], i: usize) -> [Order; 4]
 fn train_in(row: &[u8; ROW]) -> Train
     ensures { λ r. ⌜ r ≡ rowAt (now (row .entry)) 0 ⌝ }
 {
-    let track = track_at(row, TRACK);
-    let orders = orders_at(row, ORDERS);
     Train {
         loco: Loco(numbers::word_at(row, LOCO)),
         ticket: Ticket(numbers::word_at(row, TICKET)),
@@ -158,8 +132,8 @@ fn train_in(row: &[u8; ROW]) -> Train
         slots: numbers::byte_at(row, SLOTS),
         mode: numbers::byte_at(row, MODE),
         left: numbers::byte_at(row, LEFT),
-        track: track,
-        orders: orders,
+        track: track_at(row),
+        orders: orders_at(row),
     }
 }
 
@@ -172,75 +146,60 @@ pub fn row_at(bytes: &[u8], at: usize) -> Train
     train_in(&row)
 }
 
-fn location_flag(p: Location) -> u32
-    ensures { λ r. ⌜ r ≡ locationFlag p ⌝ }
+// A flag and a number.
+fn put_flagged(out: &mut [u8; ROW], i: usize, flag: u32, x: u32)
+    requires { ⌜ i + 5 < 2 ^ 64 ⌝ }
+    ensures { λ _. ⌜ now (out .exit) ≡ pack (now (out .entry)) (8 * i) (bits flaggedSizes) (flag ∷ x ∷ []) ⌝ }
 {
-    match p {
-        Location::Nowhere => 0,
-        Location::At(_) => 1,
-    }
-}
-
-fn location_number(p: Location) -> u32
-    ensures { λ r. ⌜ r ≡ locationNumber p ⌝ }
-{
-    match p {
-        Location::Nowhere => 0,
-        Location::At(x) => x,
-    }
-}
-
-fn limit_flag(l: Limit) -> u32
-    ensures { λ r. ⌜ r ≡ limitFlag l ⌝ }
-{
-    match l {
-        Limit::Bare => 0,
-        Limit::To(_) => 1,
-    }
-}
-
-fn limit_number(l: Limit) -> u32
-    ensures { λ r. ⌜ r ≡ limitNumber l ⌝ }
-{
-    match l {
-        Limit::Bare => 0,
-        Limit::To(x) => x,
-    }
-}
-
-fn position_flag(p: Position) -> u32
-    ensures { λ r. ⌜ r ≡ positionFlag p ⌝ }
-{
-    match p {
-        Position::Unknown => 0,
-        Position::Between(_, _) => 1,
-    }
-}
-
-fn position_front(p: Position) -> u32
-    ensures { λ r. ⌜ r ≡ positionFront p ⌝ }
-{
-    match p {
-        Position::Unknown => 0,
-        Position::Between(front, _) => front,
-    }
-}
-
-fn position_rear(p: Position) -> u32
-    ensures { λ r. ⌜ r ≡ positionRear p ⌝ }
-{
-    match p {
-        Position::Unknown => 0,
-        Position::Between(_, rear) => rear,
-    }
+    numbers::put_byte(out, i, flag);
+    numbers::put_word(out, i + BYTE, x);
 }
 
 fn put_location(out: &mut [u8; ROW], i: usize, p: Location)
     requires { ⌜ i + 5 < 2 ^ 64 ⌝ }
-    ensures { λ _. ⌜ now (out .exit) ≡ pack (now (out .entry)) (8 * i) (bits locationSizes) (locationValues p) ⌝ }
+    ensures { λ _. ⌜ now (out .exit) ≡ pack (now (out .entry)) (8 * i) (bits flaggedSizes) (locationValues p) ⌝ }
 {
-    numbers::put_byte(out, i, location_flag(p));
-    numbers::put_word(out, i + NUMBER, location_number(p));
+    match p {
+        Location::Nowhere => put_flagged(out, i, 0, 0),
+        Location::At(x) => put_flagged(out, i, 1, x),
+    }
+}
+
+fn put_limit(out: &mut [u8; ROW], i: usize, l: Limit)
+    requires { ⌜ i + 5 < 2 ^ 64 ⌝ }
+    ensures { λ _. ⌜ now (out .exit) ≡ pack (now (out .entry)) (8 * i) (bits flaggedSizes) (limitValues l) ⌝ }
+{
+    match l {
+        Limit::Bare => put_flagged(out, i, 0, 0),
+        Limit::To(x) => put_flagged(out, i, 1, x),
+    }
+}
+
+fn put_ends(out: &mut [u8; ROW], flag: u32, front: u32, rear: u32)
+    ensures { λ _. ⌜ now (out .exit) ≡ pack (now (out .entry)) (8 * trackStart) (bits positionSizes) (flag ∷ front ∷ rear ∷ []) ⌝ }
+{
+    put_flagged(out, POSITION, flag, front);
+    numbers::put_word(out, REAR, rear);
+}
+
+fn put_position(out: &mut [u8; ROW], p: Position)
+    ensures { λ _. ⌜ now (out .exit) ≡ pack (now (out .entry)) (8 * trackStart) (bits positionSizes) (positionValues p) ⌝ }
+{
+    match p {
+        Position::Unknown => put_ends(out, 0, 0, 0),
+        Position::Between(front, rear) => put_ends(out, 1, front, rear),
+    }
+}
+
+fn put_track(out: &mut [u8; ROW], track: Track)
+    ensures { λ _. ⌜ now (out .exit) ≡ pack (now (out .entry)) (8 * trackStart) (bits trackSizes) (trackValues track) ⌝ }
+{
+    let position = track.position;
+    let granted = track.granted;
+    let danger = track.danger;
+    put_position(out, position);
+    put_location(out, GRANTED, granted);
+    put_location(out, DANGER, danger);
 }
 
 fn put_order(out: &mut [u8; ROW], i: usize, order: Order)
@@ -249,70 +208,39 @@ fn put_order(out: &mut [u8; ROW], i: usize, order: Order)
 {
     let limit = order.limit;
     numbers::put_word(out, i, order.other.0);
-    numbers::put_byte(out, i + LIMITED, limit_flag(limit));
-    numbers::put_word(out, i + LIMIT, limit_number(limit));
+    put_limit(out, i + WORD, limit);
 }
 
-fn put_position(out: &mut [u8; ROW], i: usize, p: Position)
-    requires { ⌜ i + 9 < 2 ^ 64 ⌝ }
-    ensures { λ _. ⌜ now (out .exit) ≡ pack (now (out .entry)) (8 * i) (bits positionSizes) (positionValues p) ⌝ }
+fn put_orders(out: &mut [u8; ROW], held: [Order; 4])
+    ensures { λ _. ⌜ now (out .exit) ≡ pack (now (out .entry)) (8 * ordersStart) (bits ordersSizes) (ordersValues held) ⌝ }
 {
-    numbers::put_byte(out, i, position_flag(p));
-    numbers::put_word(out, i + FRONT, position_front(p));
-    numbers::put_word(out, i + REAR, position_rear(p));
+    let mut k: usize = 0;
+    while k < orders::ORDERS {
+        put_order(out, ORDERS + ORDER * k, held[k]);
+        k += 1;
+    }
 }
 
-fn put_track(out: &mut [u8; ROW], i: usize, track: Track)
-    requires { ⌜ i + 19 < 2 ^ 64 ⌝ }
-    ensures { λ _. ⌜ now (out .exit) ≡ pack (now (out .entry)) (8 * i) (bits trackSizes) (trackValues track) ⌝ }
+fn put_head(out: &mut [u8; ROW], t: Train)
+    ensures { λ _. ⌜ now (out .exit) ≡ pack (now (out .entry)) 0 (bits headSizes) (headValues t) ⌝ }
 {
-    let position = track.position;
-    let granted = track.granted;
-    let danger = track.danger;
-    put_position(out, i, position);
-    put_location(out, i + GRANTED, granted);
-    put_location(out, i + DANGER, danger);
-}
-
-fn put_head(out: &mut [u8; ROW], i: usize, t: Train)
-    requires { ⌜ i + 12 < 2 ^ 64 ⌝ }
-    ensures { λ _. ⌜ now (out .exit) ≡ pack (now (out .entry)) (8 * i) (bits headSizes) (headValues t) ⌝ }
-{
-    numbers::put_word(out, i, t.loco.0);
-    numbers::put_word(out, i + TICKET, t.ticket.0);
-    numbers::put_byte(out, i + START, t.start.0);
-    numbers::put_byte(out, i + SLOTS, t.slots);
-    numbers::put_byte(out, i + MODE, t.mode);
-    numbers::put_byte(out, i + LEFT, t.left);
-}
-
-fn put_orders(out: &mut [u8; ROW], i: usize, held: [Order; 4])
-    requires { ⌜ i + 36 < 2 ^ 64 ⌝ }
-    ensures { λ _. ⌜ now (out .exit) ≡ pack (now (out .entry)) (8 * i) (bits ordersSizes) (ordersValues held) ⌝ }
-{
-    put_order(out, i, held[0]);
-    put_order(out, i + SECOND, held[1]);
-    put_order(out, i + THIRD, held[2]);
-    put_order(out, i + FOURTH, held[3]);
-}
-
-// The bytes of a record's row.
-fn bytes_of(t: Train) -> [u8; ROW]
-    ensures { λ r. ⌜ r ≡ putRow (replicate rowBytes 0) 0 t ⌝ }
-{
-    let track = t.track;
-    let orders = t.orders;
-    let mut row: [u8; ROW] = [0; ROW];
-    put_head(&mut row, 0, t);
-    put_track(&mut row, TRACK, track);
-    put_orders(&mut row, ORDERS, orders);
-    row
+    numbers::put_word(out, LOCO, t.loco.0);
+    numbers::put_word(out, TICKET, t.ticket.0);
+    numbers::put_byte(out, START, t.start.0);
+    numbers::put_byte(out, SLOTS, t.slots);
+    numbers::put_byte(out, MODE, t.mode);
+    numbers::put_byte(out, LEFT, t.left);
 }
 
 // The record put as the row that starts at a byte. Bytes past the end are dropped.
 pub fn put_row(out: &mut [u8], at: usize, t: Train)
     ensures { λ _. ⌜ now (out .exit) ≡ putRow (now (out .entry)) at t ⌝ }
 {
-    let row = bytes_of(t);
+    let track = t.track;
+    let orders = t.orders;
+    let mut row: [u8; ROW] = [0; ROW];
+    put_head(&mut row, t);
+    put_track(&mut row, track);
+    put_orders(&mut row, orders);
     numbers::copy(&row, 0, ROW, out, at);
 }

@@ -19,6 +19,10 @@ lastTicket = 65535
 abbrev pub lastSlot : ℕ
 lastSlot = 44
 
+-- the loco number of an empty row, which names no train
+abbrev pub noLoco : Loco
+noLoco = record { 0 = 0 }
+
 -- two loco numbers are the same
 abbrev pub sameLoco : Loco → Loco → Bool
 sameLoco a b = eqb (a .0) (b .0)

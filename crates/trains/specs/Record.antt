@@ -13,11 +13,7 @@ use Rattle.trains.specs.declared.record.Limit.the-variants.{Bare}
 use Rattle.trains.specs.declared.record.Order.{Order}
 use Rattle.trains.specs.declared.record.Track.{Track}
 use Rattle.trains.specs.declared.record.Train.{Train}
-use Rattle.trains.specs.Kinds.{sameLoco}
-
--- the loco number of an empty row
-abbrev pub noLoco : Loco
-noLoco = record { 0 = 0 }
+use Rattle.trains.specs.Kinds.{noLoco, sameLoco}
 
 -- the ticket that no grant gives: an order under it is none
 abbrev pub noTicket : Ticket

@@ -5,8 +5,8 @@ use Rattle.trains.specs.declared.kinds.Loco.{Loco}
 use Rattle.trains.specs.declared.record.Train.{Train}
 use Rattle.trains.specs.declared.sought.Sought.{Sought}
 use Rattle.trains.specs.declared.sought.Sought.the-variants.{Pair, Number, Empty}
-use Rattle.trains.specs.Kinds.{sameLoco, sameTicket, ticketInRange}
-use Rattle.trains.specs.Record.{noLoco, isEmpty}
+use Rattle.trains.specs.Kinds.{noLoco, sameLoco, sameTicket, ticketInRange}
+use Rattle.trains.specs.Record.{isEmpty}
 
 -- 24 trains at most: the rows of a register
 abbrev pub rowCount : ℕ

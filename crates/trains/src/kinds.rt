@@ -2,7 +2,7 @@
 // number or a slot can't reach a ticket comparison, and each knows its range.
 use crate::ranges;
 ghost use mathlib.Core.Path.{_≡_};
-ghost use Rattle.trains.specs.Kinds.{sameLoco, sameTicket, isAbove, sameSlot, locoInRange, ticketInRange, slotInRange};
+ghost use Rattle.trains.specs.Kinds.{noLoco, sameLoco, sameTicket, isAbove, sameSlot, locoInRange, ticketInRange, slotInRange};
 
 pub const LAST_LOCO: u32 = 131070;
 
@@ -21,6 +21,13 @@ impl Loco {
         ensures { λ r. ⌜ r ≡ sameLoco self other ⌝ }
     {
         self.0 == other.0
+    }
+
+    // Is this the loco number of an empty row, which names no train?
+    pub fn is_none(self) -> bool
+        ensures { λ r. ⌜ r ≡ sameLoco self noLoco ⌝ }
+    {
+        self.0 == 0
     }
 
     pub fn in_range(self) -> bool

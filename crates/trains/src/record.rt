@@ -108,6 +108,6 @@ impl Train {
     pub fn is_empty(self) -> bool
         ensures { λ r. ⌜ r ≡ isEmpty self ⌝ }
     {
-        self.loco.is(Loco(0))
+        self.loco.is_none()
     }
 }

@@ -1,53 +1,40 @@
 -- `rows::register::row_holds` meets its contract.
-use mathlib.Core.Path.{sym, ap, _∙_}
-use Rattle.trains.specs.declared.kinds.Loco.{Loco}
-use Rattle.trains.specs.declared.record.Train.{Train}
-use Rattle.trains.specs.Kinds.{sameLoco}
-use Rattle.trains.specs.Record.{noLoco}
-use Rattle.trains.specs.declared.sought.Sought.{Sought}
-use Rattle.trains.specs.Sought.{holdsLoco, isSought}
-use Rattle.rows.specs.Register.{rowOf}
-use Rattle.rows.proofs.RegisterLaws.{other-loco}
+use mathlib.Core.Path.{_≡_, ap, _∙_}
+use Prim.Native.Nat.{ℕ}
+use mathlib.Core.Bool.{Bool}
+use lib.Dec.{eqb}
+use borrow.Author.Tests.{not-true, not-false}
+use Rattle.rows.specs.Register.{rowOf, rowHolds}
+use Rattle.rows.proofs.RegisterLaws.{loco-word, ticket-word}
 use borrow.Author.Needs.{needs}
-use borrow.Author.Tests.{not-true}
 use Rattle.rows.proofs.register.row_holds.Statement.{statement}
 use Rattle.rows.proofs.register.row_holds.Tie as tie
 
 returns : tie.Need-returns
+unfolding rowHolds
 returns c =
-    let a = c .before .before .before .before .before .args in
-    let row : Train = rowOf (a .register .now) (a .at) (a .i) in
-    sym
-    (other-loco (a .sought) row
-    (sym (c .before .is .ensures ∙ (λ k. sameLoco (c .before .before .before .loco-of .ensures k) (c .before .before .loco-sought .ensures k)))
-    ∙ not-true _ (c .if1 .taken)))
+    let a = c .before .before .before .before .args in
+    let same = c .before .is .ensures
+    ∙ ap (λ (n : ℕ). eqb n (a .loco .0)) (c .before .before .word-in .ensures ∙ loco-word (a .register .now) (a .at) (a .i)) in
+    simp (← same, not-true (c .before .is .result) (c .if1 .taken))
 
 returns-2 : tie.Need-returns-2
+unfolding rowHolds
 returns-2 c =
-    let a = c .before .before .before .before .before .before .before .before .before .args in
-    let row : Train = rowOf (a .register .now) (a .at) (a .i) in
-    let given = c .before .before .sought .given .1 in
-    c .holds-pair .ensures ∙ sym (ap (λ (x : Sought). isSought x row) given)
+    let a = c .before .before .before .before .before .before .args in
+    let same = c .before .before .before .is .ensures
+    ∙ ap (λ (n : ℕ). eqb n (a .loco .0)) (c .before .before .before .before .word-in .ensures ∙ loco-word (a .register .now) (a .at) (a .i)) in
+    simp (← same, not-false (c .before .before .before .is .result) (c .before .before .if1 .left), ← c .before .is2 .ensures, c .if2 .taken)
 
 returns-3 : tie.Need-returns-3
-unfolding isSought
+unfolding rowHolds
 returns-3 c =
-    let a = c .before .before .before .before .before .before .before .before .before .before .args in
-    let row : Train = rowOf (a .register .now) (a .at) (a .i) in
-    let given = c .before .before .before .sought2 .given .1 in
-    c .holds .ensures
-    ∙ ap (λ (x : Loco). holdsLoco x (c .before .before .before .sought2 .given .0 .0)) (c .before .loco-of2 .ensures)
-    ∙ sym (ap (λ (x : Sought). isSought x row) given)
-
-returns-4 : tie.Need-returns-4
-unfolding isSought
-returns-4 c =
-    let a = c .before .before .before .before .before .before .before .before .before .args in
-    let row : Train = rowOf (a .register .now) (a .at) (a .i) in
-    let given = c .before .before .enum-told .given .1 in
-    c .is2 .ensures
-    ∙ ap (λ (x : Loco). sameLoco x noLoco) (c .before .loco-of3 .ensures)
-    ∙ sym (ap (λ (x : Sought). isSought x row) given)
+    let a = c .before .before .before .before .before .before .before .before .args in
+    let same = c .before .before .before .before .before .is .ensures
+    ∙ ap (λ (n : ℕ). eqb n (a .loco .0)) (c .before .before .before .before .before .before .word-in .ensures ∙ loco-word (a .register .now) (a .at) (a .i)) in
+    c .is3 .ensures
+    ∙ ap (λ (n : ℕ). eqb n (a .ticket .0)) (c .before .word-in2 .ensures ∙ ticket-word (a .register .now) (a .at) (a .i))
+    ∙ simp (← same, not-false (c .before .before .before .before .before .is .result) (c .before .before .before .before .if1 .left), ← c .before .before .before .is2 .ensures, c .before .before .if2 .left)
 
 pub row-holds-spec : {M : Type 1} → statement M
-row-holds-spec = tie.close (tie.spec (λ c κs. search needs) (λ c κs. search needs) (λ c κs. search needs) returns (λ c. search needs) (λ c κs. search needs) (λ c. search needs) (λ c κs. search needs) (λ c κs. search needs) (λ c. search needs) (λ c κs. search needs) (λ c κs. search needs) returns-2 returns-3 returns-4)
+row-holds-spec = tie.close (tie.spec (λ c κs. search needs) (λ c κs. search needs) returns (λ c κs. search needs) returns-2 (λ c κs. search needs) (λ c κs. search needs) returns-3)

@@ -4,31 +4,31 @@ use Prim.Native.Nat.{_≤_, _-_}
 use Rattle.trains.specs.Found.{first}
 use Rattle.trains.proofs.FoundLaws.{first-hit, first-miss, first-end}
 use Rattle.trains.specs.Sought.{rowCount}
-use Rattle.rows.specs.Register.{soughtAt, foundIn}
+use Rattle.rows.specs.Register.{rowHolds, searched}
 use borrow.Author.Needs.{needs}
 use Rattle.rows.proofs.register.search.Statement.{statement}
 use Rattle.rows.proofs.register.search.Tie as tie
 
 abbrev Inv-loop : tie.InvT-loop
-Inv-loop register at sought i₀ i =
-    (i ≤ rowCount) × (foundIn register at sought ≡ first (soughtAt register at sought) i (rowCount - i))
+Inv-loop register at loco ticket i₀ i =
+    (i ≤ rowCount) × (searched register at loco ticket ≡ first (rowHolds register at loco ticket) i (rowCount - i))
 
 abbrev μ-loop : tie.MeasureT-loop
-μ-loop register at sought i₀ i = rowCount - i
+μ-loop register at loco ticket i₀ i = rowCount - i
 
 loop-holds : tie.Need-loop-holds Inv-loop μ-loop
-unfolding foundIn
+unfolding searched
 loop-holds c = (search needs, refl)
 
 returns : tie.Need-returns Inv-loop μ-loop
-unfolding soughtAt
+unfolding rowHolds
 returns c =
     sym
     (c .before .before .before .loop .inv .1
     ∙ first-hit _ _ _ (c .before .before .loop-test .taken) (sym (c .before .row-holds .ensures) ∙ c .if1 .taken))
 
 loop-again : tie.Need-loop-again Inv-loop μ-loop
-unfolding soughtAt
+unfolding rowHolds
 loop-again c = (
   search needs,
   c .before .before .before .loop .inv .1

@@ -1,27 +1,33 @@
--- `rows::row::put_orders` meets its contract.
-use mathlib.Core.Path.{_≡_, _∙_}
-use Prim.Native.Nat.{ℕ, _+_, _*_}
-use mathlib.Core.List.{List}
-use native.Mathlib.Omega.{arith}
+-- `rows::row::put_orders` meets its contract: what is left, put, is the whole.
+use mathlib.Core.Path.{_≡_, refl, sym, _∙_}
+use Prim.Native.Nat.{_+_, _-_, _*_, _≤_}
 use Rattle.numbers.specs.Pieces.{pack}
-use Rattle.trains.specs.Record.{orderAt}
-use Rattle.rows.specs.Parts.{bits, orderSizes, orderValues}
+use Rattle.trains.specs.Record.{orderCount}
+use Rattle.rows.specs.Parts.{bits, ordersSizes, ordersValues}
+use Rattle.rows.specs.Row.{ordersStart}
+use Rattle.rows.proofs.RowLaws.{sizesLeft, valuesLeft, order-next, order-end}
 use borrow.Author.Needs.{needs}
 use Rattle.rows.proofs.row.put_orders.Statement.{statement}
 use Rattle.rows.proofs.row.put_orders.Tie as tie
 
-returns : tie.Need-returns
-unfolding pack
-returns c =
-    let a = c .before .before .before .before .before .before .before .before .before .before .before .before .args in
-    let b : ℕ = 8 * a .i in
-    let e : 8 * (a .i + 9) ≡ b + 32 + 8 + 32 = omega arith in
-    let f : 8 * (a .i + 18) ≡ b + 32 + 8 + 32 + 32 + 8 + 32 = omega arith in
-    let g : 8 * (a .i + 27) ≡ b + 32 + 8 + 32 + 32 + 8 + 32 + 32 + 8 + 32 = omega arith in
-    let put : List ℕ → ℕ → ℕ → List ℕ = λ l q n. pack l q (bits orderSizes) (orderValues (orderAt (a .t3) n)) in
-    c .put-order4 .ensures
-    ∙ (λ k. put ((c .before .before .before .put-order3 .ensures
-    ∙ (λ j. put ((c .before .before .before .before .before .before .put-order2 .ensures ∙ (λ m. put (c .before .before .before .before .before .before .before .before .before .put-order .ensures m) (e m) 1)) j) (f j) 2)) k) (g k) 3)
+abbrev Inv-loop : tie.InvT-loop
+Inv-loop out₀ held k₀ out k =
+    (k ≤ orderCount)
+    × (pack out₀ (8 * ordersStart) (bits ordersSizes) (ordersValues held)
+    ≡ pack out (8 * (ordersStart + 9 * k)) (bits (sizesLeft (orderCount - k))) (valuesLeft held k (orderCount - k)))
+
+abbrev μ-loop : tie.MeasureT-loop
+μ-loop out₀ held k₀ out k = orderCount - k
+
+loop-holds : tie.Need-loop-holds Inv-loop μ-loop
+unfolding sizesLeft valuesLeft
+loop-holds c = (search needs, refl)
+
+loop-again : tie.Need-loop-again Inv-loop μ-loop
+loop-again c = (search needs, c .before .before .before .before .loop .inv .1 ∙ order-next _ _ _ _ (c .before .before .before .loop-test .taken) (c .put-order .ensures))
+
+returns : tie.Need-returns Inv-loop μ-loop
+returns c = sym (c .before .loop .inv .1 ∙ order-end _ _ _ _ (c .loop-test .left))
 
 pub put-orders-spec : {M : Type 1} → statement M
-put-orders-spec = tie.close (tie.spec (λ c. search needs) (λ c κs. search needs) (λ c. search needs) (λ c. search needs) (λ c κs. search needs) (λ c. search needs) (λ c. search needs) (λ c κs. search needs) (λ c. search needs) (λ c. search needs) (λ c κs. search needs) returns)
+put-orders-spec = tie.close (tie.spec Inv-loop μ-loop loop-holds (λ c. search needs) (λ c. search needs) (λ c. search needs) (λ c. search needs) (λ c κs. search needs) (λ c. search needs) (λ c. search needs) loop-again returns)

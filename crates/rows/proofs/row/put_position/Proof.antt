@@ -1,21 +1,23 @@
 -- `rows::row::put_position` meets its contract.
-use mathlib.Core.Path.{ap, _∙_}
-use Prim.Native.Nat.{_+_}
-use mathlib.Core.List.{[], _∷_}
-use native.Mathlib.Omega.{arith}
-use Rattle.numbers.specs.Numbers.{putNumber}
-use Rattle.rows.proofs.Bytewise.{put-next, put-done}
+use mathlib.Core.Path.{sym, ap, _∙_}
+use Prim.Native.Nat.{_*_}
+use Rattle.numbers.specs.Pieces.{pack}
+use Rattle.trains.specs.declared.record.Position.{Position}
+use Rattle.rows.specs.Parts.{bits, positionSizes, positionValues}
+use Rattle.rows.specs.Row.{trackStart}
 use borrow.Author.Needs.{needs}
 use Rattle.rows.proofs.row.put_position.Statement.{statement}
 use Rattle.rows.proofs.row.put_position.Tie as tie
 
 returns : tie.Need-returns
 returns c =
-    let a = c .before .before .before .before .before .before .before .before .before .args in
-    put-next 1 (a .i) (a .i + 1) (4 ∷ 4 ∷ []) _ _ _ _ _ (c .before .before .before .before .before .before .put-byte .ensures ∙ ap (putNumber 1 (a .out .now) (a .i)) (c .before .before .before .before .before .before .before .position-flag .ensures)) (omega arith)
-    (put-next 4 (a .i + 1) (a .i + 5) (4 ∷ []) _ _ _ _ _ (c .before .before .before .put-word .ensures ∙ ap (putNumber 4 (c .before .before .before .before .before .before .put-byte .last .0) (a .i + 1)) (c .before .before .before .before .position-front .ensures)) (omega arith)
-    (put-next 4 (a .i + 5) (a .i + 5 + 4) ([]) _ _ _ _ _ (c .put-word2 .ensures ∙ ap (putNumber 4 (c .before .before .before .put-word .last .0) (a .i + 5)) (c .before .position-rear .ensures)) (omega arith)
-    (put-done _ _)))
+    c .put-ends .ensures
+    ∙ sym (ap (λ (x : Position). pack (c .before .before .before .before .args .out .now) (8 * trackStart) (bits positionSizes) (positionValues x)) (c .before .before .enum-told .given .1))
+
+returns-2 : tie.Need-returns-2
+returns-2 c =
+    c .put-ends2 .ensures
+    ∙ sym (ap (λ (x : Position). pack (c .before .before .before .before .before .args .out .now) (8 * trackStart) (bits positionSizes) (positionValues x)) (c .before .before .before .p .given .1))
 
 pub put-position-spec : {M : Type 1} → statement M
-put-position-spec = tie.close (tie.spec (λ c κs. search needs) (λ c κs. search needs) (λ c. search needs) (λ c κs. search needs) (λ c κs. search needs) (λ c. search needs) (λ c κs. search needs) (λ c κs. search needs) returns)
+put-position-spec = tie.close (tie.spec (λ c. search needs) (λ c κs. search needs) (λ c. search needs) (λ c κs. search needs) returns returns-2)
