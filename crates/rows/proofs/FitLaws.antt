@@ -1,5 +1,5 @@
 -- Records whose numbers fit a row: what that means, that their numbers read back, and that reading and every change keep it.
-use Prim.Native.Nat.{ℕ, zero, suc, _^_, _≤_, _<_}
+use Prim.Native.Nat.{ℕ, zero, suc, _*_, _^_, _≤_, _<_}
 use mathlib.Core.Bool.{Bool, true, false, cond}
 use mathlib.Core.List.{List, [], _∷_}
 use mathlib.Core.Logic.{_⊎_, inl, inr}
@@ -7,7 +7,7 @@ use mathlib.Core.Path.{_≡_, refl, _∙_}
 use native.Mathlib.Decide.{ℕ-discrete}
 use native.Mathlib.Omega.{arith}
 use lib.Dec.{eqb}
-use lib.ListN.{length, set, length-set}
+use lib.ListN.{length, getD, drop, set, length-set}
 use lib.Seq.{getD-set-same, getD-set-other, set-out}
 use Rattle.numbers.specs.Fields.{field}
 use Rattle.numbers.specs.Pieces.{unpack}
@@ -31,7 +31,7 @@ use Rattle.trains.specs.declared.kinds.Slot.{Slot}
 use Rattle.trains.specs.Changes.{changed, onTrack, reported, authorised, endangered, leftFor, withPosition, withAuthority, withDanger, withMode}
 use Rattle.trains.specs.Orders.{setAt, room, orderPlace, withOrders, withOrder, orderCleared}
 use Rattle.trains.specs.Record.{noOrder, orderCount, orderAt, freshTrain}
-use Rattle.rows.specs.Parts.{bits, locationBy, limitBy, positionBy, locationFlag, locationNumber, positionFlag, positionFront, positionRear, limitFlag, limitNumber}
+use Rattle.rows.specs.Parts.{bits, locationOf, limitOf, positionOf, orderOf, locationValues, limitValues, positionValues, locationFlag, locationNumber, positionFlag, positionFront, positionRear, limitFlag, limitNumber}
 use Rattle.rows.specs.Row.{rowSizes, rowValues, trainOf, rowAt}
 
 -- ---- what fits
@@ -137,22 +137,22 @@ row-fit t f =
 
 -- ---- the numbers of such a record read back
 
-location-back : (p : Location) → locationBy (locationFlag p) (locationNumber p) ≡ p
-unfolding locationBy
+location-back : (p : Location) → locationOf (locationValues p) ≡ p
+unfolding locationOf
 location-back Nowhere = refl
 location-back (At x) = refl
 
-position-back : (p : Position) → positionBy (positionFlag p) (positionFront p) (positionRear p) ≡ p
-unfolding positionBy
+position-back : (p : Position) → positionOf (positionValues p) ≡ p
+unfolding positionOf
 position-back Unknown = refl
 position-back (Between x y) = refl
 
-limit-back : (l : Limit) → limitBy (limitFlag l) (limitNumber l) ≡ l
-unfolding limitBy
+limit-back : (l : Limit) → limitOf (limitValues l) ≡ l
+unfolding limitOf
 limit-back Bare = refl
 limit-back (To x) = refl
 
-order-back : (o : Order) → _≡_ {A = Order} (record { other = o .other; limit = limitBy (limitFlag (o .limit)) (limitNumber (o .limit)) }) o
+order-back : (o : Order) → _≡_ {A = Order} (record { other = o .other; limit = limitOf (limitValues (o .limit)) }) o
 order-back o = λ i. record { other = o .other; limit = limit-back (o .limit) i }
 
 four-orders : (os : List Order) → length os ≡ 4 → orderAt os 0 ∷ orderAt os 1 ∷ orderAt os 2 ∷ orderAt os 3 ∷ [] ≡ os
@@ -164,6 +164,7 @@ four-orders (a ∷ (b ∷ (d ∷ (e ∷ [])))) h = refl
 four-orders (a ∷ (b ∷ (d ∷ (e ∷ (f ∷ os))))) h = absurd (omega arith)
 
 pub train-back : (t : Train) → Fits t → trainOf (rowValues t) ≡ t
+unfolding locationOf limitOf positionOf
 train-back t f =
     (λ i. record {
       loco = t .loco;
@@ -184,29 +185,32 @@ train-back t f =
 
 -- ---- what is read fits
 
-location-by-fits : (flag x : ℕ) → Word x → LocationFits (locationBy flag x)
-unfolding locationBy
-location-by-fits flag x h = go (eqb flag 0)
+location-fits : (vs : List ℕ) → Word (getD vs 1 0) → LocationFits (locationOf vs)
+unfolding locationOf
+location-fits vs h = go (eqb (getD vs 0 0) 0)
   where
-    go : (b : Bool) → LocationFits (cond b Nowhere (At x))
+    go : (b : Bool) → LocationFits (cond b Nowhere (At (getD vs 1 0)))
     go true = tt
     go false = h
 
-limit-by-fits : (flag x : ℕ) → Word x → LimitFits (limitBy flag x)
-unfolding limitBy
-limit-by-fits flag x h = go (eqb flag 0)
+limit-fits : (vs : List ℕ) → Word (getD vs 1 0) → LimitFits (limitOf vs)
+unfolding limitOf
+limit-fits vs h = go (eqb (getD vs 0 0) 0)
   where
-    go : (b : Bool) → LimitFits (cond b Bare (To x))
+    go : (b : Bool) → LimitFits (cond b Bare (To (getD vs 1 0)))
     go true = tt
     go false = h
 
-position-by-fits : (flag x y : ℕ) → Word x → Word y → PositionFits (positionBy flag x y)
-unfolding positionBy
-position-by-fits flag x y h k = go (eqb flag 0)
+position-fits : (vs : List ℕ) → Word (getD vs 1 0) → Word (getD vs 2 0) → PositionFits (positionOf vs)
+unfolding positionOf
+position-fits vs h k = go (eqb (getD vs 0 0) 0)
   where
-    go : (b : Bool) → PositionFits (cond b Unknown (Between x y))
+    go : (b : Bool) → PositionFits (cond b Unknown (Between (getD vs 1 0) (getD vs 2 0)))
     go true = tt
     go false = (h, k)
+
+order-fits : (vs : List ℕ) → Word (getD vs 0 0) → Word (getD (drop 1 vs) 1 0) → OrderFits (orderOf vs)
+order-fits vs h k = record { other = h; limit = limit-fits (drop 1 vs) k }
 
 no-order-fits : OrderFits noOrder
 no-order-fits = record { other = omega arith; limit = tt }
@@ -226,6 +230,7 @@ unfolding rowAt unpack
 fits-read s at =
     let word : (p : ℕ) → Word (field s p 32) = λ p. field-lt s p 32 in
     let byte : (p : ℕ) → Byte (field s p 8) = λ p. field-lt s p 8 in
+    let os : List ℕ = drop 13 (unpack s (8 * at) (bits rowSizes)) in
     record {
       loco = word _;
       ticket = word _;
@@ -234,17 +239,14 @@ fits-read s at =
       mode = byte _;
       left = byte _;
       track = record {
-        position = position-by-fits _ _ _ (word _) (word _);
-        granted = location-by-fits _ _ (word _);
-        danger = location-by-fits _ _ (word _);
+        position = position-fits _ (word _) (word _);
+        granted = location-fits _ (word _);
+        danger = location-fits _ (word _);
       };
       four = refl;
       orders =
-          four-fit _ _ _ _
-          (record { other = word _; limit = limit-by-fits _ _ (word _) })
-          (record { other = word _; limit = limit-by-fits _ _ (word _) })
-          (record { other = word _; limit = limit-by-fits _ _ (word _) })
-          (record { other = word _; limit = limit-by-fits _ _ (word _) });
+          four-fit _ _ _ _ (order-fits os (word _) (word _)) (order-fits (drop 3 os) (word _) (word _))
+          (order-fits (drop 6 os) (word _) (word _)) (order-fits (drop 9 os) (word _) (word _));
     }
 
 -- ---- what is made anew fits, and each change keeps what fits

@@ -1,7 +1,7 @@
 -- Laws of the register's searches, for whatever is sought: what is found holds it, no row before it does, and nothing is found
 -- exactly where no row holds it.
 use Prim.Native.Nat.{ℕ, _+_, _*_, _≤_, _<_}
-use mathlib.Core.Bool.{Bool, true, false, not, _&&_, _||_, and-false, and-eq-true-iff}
+use mathlib.Core.Bool.{Bool, true, false, not, _&&_, _||_, and-true, and-false, and-eq-true-iff}
 use mathlib.Core.List.{List}
 use mathlib.Core.Path.{_≡_, refl, sym, ap, subst, _∙_}
 use native.Mathlib.Omega.{arith}
@@ -125,10 +125,6 @@ pair-none loco ticket t e = ap (λ (b : Bool). b && ticketInRange ticket && same
 pub pair-out : (loco : Loco) (ticket : Ticket) (t : Train) → ticketInRange ticket ≡ false → isSought (Pair loco ticket) t ≡ false
 unfolding isSought
 pair-out loco ticket t e = rw (e, and-false (holdsLoco (t .loco) loco)) refl
-
-and-true : (b : Bool) → b && true ≡ b
-and-true true = refl
-and-true false = refl
 
 pub empty-same : (t : Train) → sameLoco (t .loco) noLoco && true ≡ isSought Empty t
 unfolding isSought

@@ -14,7 +14,7 @@ use Rattle.numbers.proofs.PieceLaws.{length-pack, bytes-pack, bit-pack-out, unp
 use Rattle.trains.specs.declared.record.Order.{Order}
 use Rattle.trains.specs.declared.record.Train.{Train}
 use Rattle.trains.specs.Record.{orderCount, orderAt, blankTrain}
-use Rattle.rows.specs.Parts.{bits, trackSizes, orderSizes, ordersSizes, trackOf, ordersOf, trackValues, orderValues, ordersValues, locationBy, limitBy, positionBy}
+use Rattle.rows.specs.Parts.{bits, trackSizes, orderSizes, ordersSizes, trackOf, ordersOf, trackValues, orderValues, ordersValues, locationOf, limitOf, positionOf}
 use Rattle.rows.specs.Row.{rowBytes, trackStart, ordersStart, headSizes, headValues, rowAt, putRow, rowSizes, rowValues, trainOf}
 use Rattle.rows.proofs.Bytewise.{unpack-past, pack-past, field-same, unpack-same, pack-same, bit-of-byte}
 use Rattle.rows.proofs.FitLaws.{Fits, row-fit, train-back}
@@ -38,7 +38,7 @@ rowFrom s a b c d e f g h = record {
 pub row-parts : (s : List ℕ) (at : ℕ)
     → rowAt s at
     ≡ rowFrom s (8 * at) (8 * (at + 4)) (8 * (at + 8)) (8 * (at + 9)) (8 * (at + 10)) (8 * (at + 11)) (8 * (at + 12)) (8 * (at + 31))
-unfolding rowAt unpack
+unfolding rowAt unpack locationOf limitOf positionOf
 row-parts s at =
     let p : ℕ = 8 * at in
     let b : p + 32 ≡ 8 * (at + 4) = omega arith in
@@ -85,7 +85,7 @@ order-end os k s p h = let z : orderCount - k ≡ 0 = omega arith in λ i. pack 
 
 -- a row past the end reads as blank
 pub row-past : (s : List ℕ) (at : ℕ) → length s ≤ at → rowAt s at ≡ blankTrain
-unfolding rowAt locationBy limitBy positionBy
+unfolding rowAt locationOf limitOf positionOf
 row-past s at h = ap trainOf (unpack-past s (8 * at) (bits rowSizes) (omega arith))
 
 -- and is not put

@@ -105,29 +105,17 @@ ordersValues os =
 
 -- ---- what is read
 
--- a location by its flag
-unfoldable pub locationBy : ℕ → ℕ → Location
-locationBy flag x = cond (eqb flag 0) Nowhere (At x)
+-- the location that a flag and a number read as
+unfoldable pub locationOf : List ℕ → Location
+locationOf vs = cond (eqb (getD vs 0 0) 0) Nowhere (At (getD vs 1 0))
 
--- a limit by its flag
-unfoldable pub limitBy : ℕ → ℕ → Limit
-limitBy flag x = cond (eqb flag 0) Bare (To x)
+-- the limit
+unfoldable pub limitOf : List ℕ → Limit
+limitOf vs = cond (eqb (getD vs 0 0) 0) Bare (To (getD vs 1 0))
 
--- a position by its flag
-unfoldable pub positionBy : ℕ → ℕ → ℕ → Position
-positionBy flag front rear = cond (eqb flag 0) Unknown (Between front rear)
-
--- the location that numbers read as
-abbrev pub locationOf : List ℕ → Location
-locationOf vs = locationBy (getD vs 0 0) (getD vs 1 0)
-
--- the limit that numbers read as
-abbrev pub limitOf : List ℕ → Limit
-limitOf vs = limitBy (getD vs 0 0) (getD vs 1 0)
-
--- the position that numbers read as
-abbrev pub positionOf : List ℕ → Position
-positionOf vs = positionBy (getD vs 0 0) (getD vs 1 0) (getD vs 2 0)
+-- the position that a flag and two numbers read as
+unfoldable pub positionOf : List ℕ → Position
+positionOf vs = cond (eqb (getD vs 0 0) 0) Unknown (Between (getD vs 1 0) (getD vs 2 0))
 
 -- the track that numbers read as
 abbrev pub trackOf : List ℕ → Track

@@ -10,10 +10,11 @@ use Rattle.rows.specs.Parts.{bits, trackSizes, ordersSizes, trackValues,
 abbrev pub rowBytes : ℕ
 rowBytes = 67
 
--- where the track starts in a row, and where the orders do
+-- where the track starts in a row
 abbrev pub trackStart : ℕ
 trackStart = 12
 
+-- and where the orders do
 abbrev pub ordersStart : ℕ
 ordersStart = 31
 

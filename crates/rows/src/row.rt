@@ -125,13 +125,14 @@ fn orders_at(s: &[u8; ROW]) -> [Order; 4]
 fn train_in(row: &[u8; ROW]) -> Train
     ensures { λ r. ⌜ r ≡ rowAt (now (row .entry)) 0 ⌝ }
 {
+    let s: &[u8] = row;
     Train {
-        loco: Loco(numbers::word_at(row, LOCO)),
-        ticket: Ticket(numbers::word_at(row, TICKET)),
-        start: Slot(numbers::byte_at(row, START)),
-        slots: numbers::byte_at(row, SLOTS),
-        mode: numbers::byte_at(row, MODE),
-        left: numbers::byte_at(row, LEFT),
+        loco: Loco(numbers::word_at(s, LOCO)),
+        ticket: Ticket(numbers::word_at(s, TICKET)),
+        start: Slot(numbers::byte_at(s, START)),
+        slots: numbers::byte_at(s, SLOTS),
+        mode: numbers::byte_at(s, MODE),
+        left: numbers::byte_at(s, LEFT),
         track: track_at(row),
         orders: orders_at(row),
     }

@@ -5,18 +5,18 @@ use native.Mathlib.Omega.{arith}
 use borrow.Author.Tests.{eq-eqb, ne-eqb}
 use Rattle.numbers.specs.Pieces.{unpack}
 use Rattle.trains.specs.declared.record.Limit.the-variants.{To}
-use Rattle.rows.specs.Parts.{limitBy}
+use Rattle.rows.specs.Parts.{limitOf}
 use Rattle.rows.proofs.Bytewise.{at-bit}
 use borrow.Author.Needs.{needs}
 use Rattle.rows.proofs.row.limit_at.Statement.{statement}
 use Rattle.rows.proofs.row.limit_at.Tie as tie
 
 returns : tie.Need-returns
-unfolding unpack limitBy
+unfolding unpack limitOf
 returns c = simp (eq-eqb _ _ (sym (c .before .byte-at .ensures) ∙ c .if1 .taken))
 
 returns-2 : tie.Need-returns-2
-unfolding unpack limitBy
+unfolding unpack limitOf
 returns-2 c =
     let a = c .before .before .before .before .args in
     let x = c .word-at .ensures ∙ at-bit 4 (a .s .now) (a .i + 1) (8 * a .i + 8) (omega arith) in
