@@ -13,14 +13,10 @@ use Rattle.trains.specs.declared.record.Order.{Order}
 use Rattle.trains.specs.Found.{orElse}
 use Rattle.trains.specs.Kinds.{sameTicket}
 use Rattle.trains.specs.Record.{noTicket, noOrder, orderCount, orderAt}
-use Rattle.trains.specs.Orders.{standsUnder, placeUnder, orderPlace, room, setAt}
+use Rattle.trains.specs.Orders.{standsUnder, placeUnder, orderPlace, room, Below, setAt}
 use Rattle.trains.proofs.FoundLaws.{first-below}
 
 -- ---- what is found is one of the four places
-
--- what is found, if anything, is below n
-abbrev pub Below : ℕ → Found → Type 0
-Below n f = (i : ℕ) → f ≡ Index i → i < n
 
 nothing-below : (n : ℕ) → Below n Nothing
 nothing-below n i e = let z : _≡_ {A = ℕ} 0 1 = cc in absurd (omega arith)

@@ -1,7 +1,8 @@
 -- The four orders of a train: the place of each, an order put, an order cleared.
 use mathlib.Core.Bool.{Bool, cond}
 use mathlib.Core.List.{List}
-use Prim.Native.Nat.{ℕ}
+use mathlib.Core.Path.{_≡_}
+use Prim.Native.Nat.{ℕ, _<_}
 use lib.ListN.{set}
 use Rattle.trains.specs.declared.found.Found.{Found}
 use Rattle.trains.specs.declared.found.Found.the-variants.{Nothing, Index}
@@ -30,6 +31,10 @@ orderPlace os other = cond (sameTicket other noTicket) Nothing (placeUnder os ot
 unfoldable pub room : List Order → Ticket → Found
 room os other =
     cond (sameTicket other noTicket) Nothing (orElse (placeUnder os other) (placeUnder os noTicket))
+
+-- what is found, if anything, is below n
+abbrev pub Below : ℕ → Found → Type 0
+Below n f = (i : ℕ) → f ≡ Index i → i < n
 
 -- the orders with one set at a place that was found
 unfoldable pub setAt : List Order → Found → Order → List Order

@@ -4,52 +4,21 @@ use crate::record::Position;
 use crate::record::Track;
 use crate::record::Train;
 ghost use mathlib.Core.Path.{_≡_};
-ghost use Rattle.trains.specs.Changes.{reported, authorised, endangered, withPosition, withAuthority, withDanger, withMode};
-
-impl Track {
-    fn reported(self, front: u32, rear: u32) -> Track
-        ensures { λ r. ⌜ r ≡ reported self front rear ⌝ }
-    {
-        let granted = self.granted;
-        let danger = self.danger;
-        Track {
-            position: Position::Between(front, rear),
-            granted: granted,
-            danger: danger,
-        }
-    }
-
-    fn authorised(self, end: Location) -> Track
-        ensures { λ r. ⌜ r ≡ authorised self end ⌝ }
-    {
-        let position = self.position;
-        let danger = self.danger;
-        Track {
-            position: position,
-            granted: end,
-            danger: danger,
-        }
-    }
-
-    fn endangered(self, danger: Location) -> Track
-        ensures { λ r. ⌜ r ≡ endangered self danger ⌝ }
-    {
-        let position = self.position;
-        let granted = self.granted;
-        Track {
-            position: position,
-            granted: granted,
-            danger: danger,
-        }
-    }
-}
+ghost use Rattle.trains.specs.Changes.{withPosition, withAuthority, withDanger, withMode};
 
 impl Train {
     pub fn with_position(mut self, front: u32, rear: u32) -> Train
         ensures { λ r. ⌜ r ≡ withPosition self front rear ⌝ }
     {
         let track = self.track;
-        self.track = track.reported(front, rear);
+        let granted = track.granted;
+        let danger = track.danger;
+        let reported = Track {
+            position: Position::Between(front, rear),
+            granted: granted,
+            danger: danger,
+        };
+        self.track = reported;
         self
     }
 
@@ -57,7 +26,14 @@ impl Train {
         ensures { λ r. ⌜ r ≡ withAuthority self end ⌝ }
     {
         let track = self.track;
-        self.track = track.authorised(end);
+        let position = track.position;
+        let danger = track.danger;
+        let authorised = Track {
+            position: position,
+            granted: end,
+            danger: danger,
+        };
+        self.track = authorised;
         self
     }
 
@@ -65,7 +41,14 @@ impl Train {
         ensures { λ r. ⌜ r ≡ withDanger self danger ⌝ }
     {
         let track = self.track;
-        self.track = track.endangered(danger);
+        let position = track.position;
+        let granted = track.granted;
+        let endangered = Track {
+            position: position,
+            granted: granted,
+            danger: danger,
+        };
+        self.track = endangered;
         self
     }
 

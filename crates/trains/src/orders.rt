@@ -5,7 +5,8 @@ use crate::record::Limit;
 use crate::record::Order;
 use crate::record::Train;
 ghost use mathlib.Core.Path.{_≡_};
-ghost use Rattle.trains.specs.Orders.{placeUnder, orderPlace, room, orderPut, orderGone, hasOrder, hasPlace, withOrder, orderCleared};
+ghost use Rattle.trains.specs.Record.{orderCount};
+ghost use Rattle.trains.specs.Orders.{placeUnder, orderPlace, room, Below, setAt, hasOrder, hasPlace, withOrder, orderCleared};
 
 pub const ORDERS: usize = 4;
 
@@ -46,28 +47,15 @@ fn room(held: [Order; 4], other: Ticket) -> Found
     }
 }
 
-// Where there is no place, the orders come back as they were.
-fn order_put(mut held: [Order; 4], other: Ticket, limit: Limit) -> [Order; 4]
-    ensures { λ r. ⌜ r ≡ orderPut held other limit ⌝ }
+// The orders with one set at a place that was found. Where none was, they come back as they were.
+fn set_at(mut held: [Order; 4], place: Found, order: Order) -> [Order; 4]
+    requires { ⌜ Below orderCount place ⌝ }
+    ensures { λ r. ⌜ r ≡ setAt held place order ⌝ }
 {
-    let Found::Index(i) = room(held, other) else {
+    let Found::Index(i) = place else {
         return held;
     };
-    held[i] = Order {
-        other: other,
-        limit: limit,
-    };
-    held
-}
-
-// Where there is no order under the ticket, the orders come back as they were.
-fn order_gone(mut held: [Order; 4], other: Ticket) -> [Order; 4]
-    ensures { λ r. ⌜ r ≡ orderGone held other ⌝ }
-{
-    let Found::Index(i) = order_place(held, other) else {
-        return held;
-    };
-    held[i] = Order::none();
+    held[i] = order;
     held
 }
 
@@ -93,7 +81,11 @@ impl Train {
         ensures { λ r. ⌜ r ≡ withOrder self other limit ⌝ }
     {
         let held = self.orders;
-        let orders = order_put(held, other, limit);
+        let order = Order {
+            other: other,
+            limit: limit,
+        };
+        let orders = set_at(held, room(held, other), order);
         self.orders = orders;
         self
     }
@@ -103,7 +95,7 @@ impl Train {
         ensures { λ r. ⌜ r ≡ orderCleared self other ⌝ }
     {
         let held = self.orders;
-        let orders = order_gone(held, other);
+        let orders = set_at(held, order_place(held, other), Order::none());
         self.orders = orders;
         self
     }
