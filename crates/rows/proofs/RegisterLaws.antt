@@ -96,31 +96,22 @@ pub searched-sought : (s : List ℕ) (at : ℕ) (loco : Loco) (ticket : Ticket) 
 unfolding searched rowHolds foundIn soughtAt
 searched-sought s at loco ticket sought h = λ i. first (λ (k : ℕ). h (rowOf s at k) i) 0 rowCount
 
--- no row holds the loco number of an empty row
-none-held : (l wanted : Loco) → sameLoco wanted noLoco ≡ true → holdsLoco l wanted ≡ false
+-- a row holds the loco number that it has, but for that of an empty row
+held : (l wanted : Loco) → holdsLoco l wanted ≡ not (sameLoco wanted noLoco) && sameLoco l wanted
 unfolding holdsLoco
-none-held l wanted e = rw (eqb-true (wanted .0) 0 e) (go (eqb (l .0) 0))
+held l wanted = go (sameLoco l wanted) refl
   where
-    go : (b : Bool) → not b && b ≡ false
-    go true = refl
-    go false = refl
-
--- another one is held where it is the row's
-held : (l wanted : Loco) → sameLoco wanted noLoco ≡ false → holdsLoco l wanted ≡ sameLoco l wanted
-unfolding holdsLoco
-held l wanted e = go (sameLoco l wanted) refl
-  where
-    go : (b : Bool) → sameLoco l wanted ≡ b → not (sameLoco l noLoco) && b ≡ b
-    go true q = rw (eqb-true (l .0) (wanted .0) q, e) refl
-    go false q = and-false (not (sameLoco l noLoco))
+    go : (b : Bool) → sameLoco l wanted ≡ b → not (sameLoco l noLoco) && b ≡ not (sameLoco wanted noLoco) && b
+    go true q = rw (eqb-true (l .0) (wanted .0) q) refl
+    go false q = and-false (not (sameLoco l noLoco)) ∙ sym (and-false (not (sameLoco wanted noLoco)))
 
 pub number-none : (loco : Loco) (t : Train) → sameLoco loco noLoco ≡ true → isSought (Number loco) t ≡ false
 unfolding isSought
-number-none loco t e = none-held (t .loco) loco e
+number-none loco t e = rw (held (t .loco) loco, e) refl
 
 pub pair-none : (loco : Loco) (ticket : Ticket) (t : Train) → sameLoco loco noLoco ≡ true → isSought (Pair loco ticket) t ≡ false
 unfolding isSought
-pair-none loco ticket t e = ap (λ (b : Bool). b && ticketInRange ticket && sameTicket (t .ticket) ticket) (none-held (t .loco) loco e)
+pair-none loco ticket t e = rw (held (t .loco) loco, e) refl
 
 pub pair-out : (loco : Loco) (ticket : Ticket) (t : Train) → ticketInRange ticket ≡ false → isSought (Pair loco ticket) t ≡ false
 unfolding isSought
@@ -132,11 +123,11 @@ empty-same t = and-true (sameLoco (t .loco) noLoco)
 
 pub number-same : (loco : Loco) → sameLoco loco noLoco ≡ false → (t : Train) → sameLoco (t .loco) loco && true ≡ isSought (Number loco) t
 unfolding isSought
-number-same loco e t = and-true (sameLoco (t .loco) loco) ∙ sym (held (t .loco) loco e)
+number-same loco e t = rw (held (t .loco) loco, e) (and-true (sameLoco (t .loco) loco))
 
 pub pair-same : (loco : Loco) (ticket : Ticket) → sameLoco loco noLoco ≡ false → ticketInRange ticket ≡ true
     → (t : Train) → sameLoco (t .loco) loco && (sameTicket ticket noTicket || sameTicket (t .ticket) ticket) ≡ isSought (Pair loco ticket) t
 unfolding isSought
 pair-same loco ticket e r t =
     let n : sameTicket ticket noTicket ≡ false = ne-eqb (ticket .0) 0 (λ z. omega (arith, one-to lastTicket (ticket .0) r .0)) in
-    rw (n, held (t .loco) loco e, r, and-true (sameLoco (t .loco) loco)) refl
+    rw (n, held (t .loco) loco, e, r, and-true (sameLoco (t .loco) loco)) refl
