@@ -27,7 +27,7 @@ use Rattle.rules.specs.Registering.{requestGround, rowOfFound}
 use Rattle.rules.specs.Slots.{mostSlots, isRequest, slotsFor, slotOf, isFree, isRun, runFrom, lowestRun, isRunFound, startOf}
 use Rattle.rules.specs.View.{View, rowIn, markOf, isTaken, soughtIn, findIn}
 use Rattle.rules.specs.declared.named.Named.{Named}
-use Rattle.rules.proofs.ChainLaws.{passed, passed-unless}
+use Rattle.rules.proofs.ChainLaws.{passed, passed-unless, both}
 use Rattle.order.specs.Scar.{Called}
 use Rattle.order.specs.Sound.{InBook, InRun}
 
@@ -202,12 +202,10 @@ pub raises : (margin grid : ℕ) (loco2 : Loco) (ticket2 : Ticket) (loco1 : Loco
     → sosGround margin grid (namedIn loco2 ticket2 v) (namedIn loco1 ticket1 v) ≡ 0 → Raises loco2 ticket2 loco1 ticket1 v
 unfolding sosGround
 raises margin grid loco2 ticket2 loco1 ticket1 v e =
-    let locos = passed-unless _ 9 _ (passed-unless _ 9 _ e .1) in
-    let live2 = passed-unless _ 15 _ (locos .1) in
-    let live1 = passed-unless _ 15 _ (live2 .1) in
-    let rows = passed _ 22 _ (live1 .1) in
+    let live = passed _ 15 _ (passed _ 9 _ e .1) in
+    let rows = passed _ 22 _ (live .1) in
     record {
-      l2 = live-named loco2 ticket2 v (live2 .0);
-      l1 = live-named loco1 ticket1 v (live1 .0);
+      l2 = live-named loco2 ticket2 v (both (namedIn loco2 ticket2 v .live) (namedIn loco1 ticket1 v .live) (live .0) .0);
+      l1 = live-named loco1 ticket1 v (both (namedIn loco2 ticket2 v .live) (namedIn loco1 ticket1 v .live) (live .0) .1);
       apart = eqb-false _ _ (rows .0);
     }

@@ -23,7 +23,7 @@ use Rattle.sos.specs.Shares.{behind, shareOfL1, shareBehind}
 use Rattle.rules.specs.Deeds.{endAnswer, changedIf, stepTaken, modeStepped, done, endAsked}
 use Rattle.rules.specs.Effect.{markFor, slotMarked, marked, applied}
 use Rattle.rules.specs.Named.{inRow, namedIn, nameGround}
-use Rattle.rules.specs.Raising.{lacksPosition, lacksPlace, shareTaken, sosGround, raised}
+use Rattle.rules.specs.Raising.{shareGround, shareTaken, sosGround, raised}
 use Rattle.rules.specs.Registering.{ticketFor, requestGround, rowOfFound, granted}
 use Rattle.rules.specs.Rules.{groundOf, doneBy, rule}
 use Rattle.rules.specs.Ruling.{when, unless, ruled as ruledBy}
@@ -42,7 +42,7 @@ unfolding
     bodyRefusal readRefusal readAnswer readInto transitions choose refuses nextStep first isFound orElseFound oneTo isPosition isNoneOrLocation locationFrom standsUnder placeUnder room setAt
     leftFor nearer nearest limitStop orderStop dangerStop orderStops endWith holdsLoco isSought soughtIn findIn isTaken markFor slotMarked marked applied
     among classOf cellOf behind shareOfL1 shareBehind when unless ruledBy granted ticketFor requestGround rowOfFound endAnswer changedIf stepTaken modeStepped done
-    endAsked lacksPosition lacksPlace shareTaken sosGround raised isRequest slotsFor isFree isRun runFrom lowestRun isRunFound startOf inRow namedIn nameGround
+    endAsked shareGround shareTaken sosGround raised isRequest slotsFor isFree isRun runFrom lowestRun isRunFound startOf inRow namedIn nameGround
     groundOf doneBy rule startView
 viewed-as-printed = refl
 

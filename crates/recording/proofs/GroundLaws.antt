@@ -116,15 +116,13 @@ ground-other s (request loco bytes) c v =
 ground-other s (release loco ticket) c v = name-other (namedIn loco ticket v) 0 (λ e. omega arith)
 ground-other s (on loco ticket deed) c v = name-other (namedIn loco ticket v) _ (deed-other deed (namedIn loco ticket v .train))
 ground-other s (sos loco2 ticket2 loco1 ticket1 grid) c v =
-    other-unless _ _ _ (λ e. omega arith)
-    (other-unless _ _ _ (λ e. omega arith)
-    (other-unless _ _ _ (λ e. omega arith)
-    (other-unless _ _ _ (λ e. omega arith)
-    (other-when _ _ _ (λ e. omega arith)
-    (other-unless _ _ _ (λ e. omega arith)
+    other-when _ _ _ (λ e. omega arith)
     (other-when _ _ _ (λ e. omega arith)
     (other-when _ _ _ (λ e. omega arith)
-    (other-when _ _ _ (λ e. omega arith) (other-when _ _ _ (λ e. omega arith) (λ e. omega arith))))))))))
+    (other-when _ _ _ (λ e. omega arith)
+    (other-when _ _ _ (λ e. omega arith)
+    (other-when _ _ _ (λ e. omega arith)
+    (other-when _ _ _ (λ e. omega arith) (other-when _ _ _ (λ e. omega arith) (λ e. omega arith))))))))
 
 -- so no ruling answers it
 ruling-other : (s : Settings) (o : Op) (c t : Ticket) (v : View) → Other (rule s o c t v .answer .answer)

@@ -1,13 +1,14 @@
 -- Laws of a chain of checks: the two ways that each can go, what a chain without a ground says of its checks, and the ruling by its ground.
 use mathlib.Core.Path.{_≡_, refl, sym, ap, _∙_}
-use mathlib.Core.Bool.{Bool, true, false, true≢false, false≢true, not, cond, _||_}
-use Prim.Native.Nat.{ℕ, suc}
+use mathlib.Core.Bool.{Bool, true, false, true≢false, false≢true, not, cond, _&&_, _||_}
+use Prim.Native.Nat.{ℕ, zero, suc}
 use native.Mathlib.Omega.{arith}
 use borrow.Author.Tests.{ne-eqb}
 use lib.Dec.{eqb}
 use Rattle.trains.specs.declared.kinds.Ticket.{Ticket}
-use Rattle.rules.specs.declared.ruling.Ruling.{Ruling}
-use Rattle.rules.specs.Ruling.{when, unless, refused, ruled}
+use Rattle.rules.specs.declared.{effect.Effect.Effect, ruling.Answer.Answer, ruling.Ruling.Ruling}
+use Rattle.rules.specs.Refusals.{badLoco, noLiveTrain}
+use Rattle.rules.specs.Ruling.{when, unless, refusedWith, ruling, refused, ruled}
 
 -- a check that gives its ground, and one that passes on
 pub stops : (test : Bool) (ground next : ℕ) → test ≡ true → ground ≡ when test ground next
@@ -40,12 +41,38 @@ unfolding unless
 passed-unless true ground next e = (refl, e)
 passed-unless false ground next e = absurd (omega arith)
 
--- a test of two parts: the first holds, or the second decides
-pub either-first : (a b : Bool) → a ≡ true → (a || b) ≡ true
-either-first a b e = ap (λ (x : Bool). x || b) e
+-- a check of two trains that both pass
+pub both : (a b : Bool) → (not a || not b) ≡ false → (a ≡ true) × (b ≡ true)
+both true true e = (refl, refl)
+both true false e = absurd (true≢false e)
+both false b e = absurd (true≢false e)
 
-pub either-next : (a b r : Bool) → a ≡ false → r ≡ b → r ≡ (a || b)
-either-next a b r e f = f ∙ sym (ap (λ (x : Bool). x || b) e)
+-- ---- a chain that is gone through from its first check on
+
+-- the ground that was found, or else what follows
+unfoldable pub orElse : ℕ → ℕ → ℕ
+orElse ground next = cond (eqb ground 0) next ground
+
+one-more : (g n next : ℕ) (test : Bool) → orElse g (when test (suc n) next) ≡ orElse (cond (eqb g 0 && test) (suc n) g) next
+unfolding orElse when
+one-more zero n next true = simp (ne-eqb (suc n) 0 (λ z. omega arith))
+one-more zero n next false = refl
+one-more (suc g) n next test = simp (ne-eqb (suc g) 0 (λ z. omega arith))
+
+-- one check more, whose test code has as t
+pub checked : (g r n next : ℕ) (t test : Bool) → t ≡ test → r ≡ cond (eqb g 0 && t) (suc n) g → orElse g (when test (suc n) next) ≡ orElse r next
+checked g r n next t test e f =
+    sym (ap (λ (x : Bool). orElse g (when x (suc n) next)) e) ∙ one-more g n next t ∙ sym (ap (λ (x : ℕ). orElse x next) f)
+
+-- before the first check, and after the last
+pub at-its-start : (n : ℕ) → orElse 0 n ≡ n
+unfolding orElse
+at-its-start n = refl
+
+pub at-its-end : (g : ℕ) → orElse g 0 ≡ g
+unfolding orElse
+at-its-end zero = refl
+at-its-end (suc g) = simp (ne-eqb (suc g) 0 (λ z. omega arith))
 
 -- ---- rulings
 
@@ -59,3 +86,12 @@ refuses counter g ground done e =
 pub allows : (counter : Ticket) (ground : ℕ) (done : Ruling) → 0 ≡ ground → done ≡ ruled counter ground done
 unfolding ruled
 allows counter ground done e = ap (λ (n : ℕ). cond (eqb n 0) done (refused counter n)) e
+
+-- a train that is named: what is answered refuses on the grounds of the name first
+pub ruled-by-name : (inRange live : Bool) (a : Answer) (counter : Ticket) (e : Effect)
+    → (let b : Answer = cond inRange (cond live a (refusedWith noLiveTrain)) (refusedWith badLoco) in
+    ruled counter (b .answer) (ruling b counter e) ≡ ruled counter (unless inRange badLoco (unless live noLiveTrain (a .answer))) (ruling a counter e))
+unfolding ruled unless
+ruled-by-name true true a counter e = refl
+ruled-by-name true false a counter e = refl
+ruled-by-name false live a counter e = refl

@@ -21,7 +21,7 @@ use Rattle.rules.specs.declared.named.Named.{Named}
 use Rattle.rules.specs.declared.ruling.Answer.{Answer}
 use Rattle.rules.specs.declared.ruling.Ruling.{Ruling}
 use Rattle.rules.specs.Effect.{rowOnly}
-use Rattle.rules.specs.Named.{nameGround}
+use Rattle.rules.specs.Named.{nameGround, nameAnswer}
 use Rattle.rules.specs.Refusals.{badPosition, badLocation, noSuchOrder}
 use Rattle.rules.specs.Ruling.{acceptedWith, refusedWith, ruling}
 
@@ -89,4 +89,4 @@ deedDone counter n changed = ruling (changed .answer) counter (rowOnly (n .row) 
 
 -- THE EFFECTIVE END of a named train, asked: nothing is changed
 unfoldable pub endAsked : Named → Answer
-endAsked n = cond (eqb (nameGround n 0) 0) (endAnswer (endOf (n .train))) (refusedWith (nameGround n 0))
+endAsked n = nameAnswer (n .loco) (n .live) (endAnswer (endOf (n .train)))

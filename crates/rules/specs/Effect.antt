@@ -38,22 +38,21 @@ noRow = rowCount
 abbrev pub noChange : Change
 noChange = change noRow blankTrain
 
--- rows changed, and no slot marked
-abbrev pub rowsOnly : Change → Change → Effect
-rowsOnly changed also = record { start = record { 0 = 0 }; slots = 0; taken = false; changed = changed; also = also }
-
--- nothing changed
-abbrev pub noEffect : Effect
-noEffect = rowsOnly noChange noChange
-
--- one row changed, and no slot marked
-abbrev pub rowOnly : ℕ → Train → Effect
-rowOnly row t = rowsOnly (change row t) noChange
+-- an effect by its parts
+abbrev pub effect : Slot → ℕ → Bool → Change → Change → Effect
+effect start slots taken changed also = record { start = start; slots = slots; taken = taken; changed = changed; also = also }
 
 -- one row changed, and a run of slots taken, or freed
 abbrev pub rowAndRun : ℕ → Train → Slot → ℕ → Bool → Effect
-rowAndRun row t start slots taken =
-    record { start = start; slots = slots; taken = taken; changed = change row t; also = noChange }
+rowAndRun row t start slots taken = effect start slots taken (change row t) noChange
+
+-- the start of a run of no slots
+abbrev pub noSlot : Slot
+noSlot = record { 0 = 0 }
+
+-- one row changed, and no slot marked
+abbrev pub rowOnly : ℕ → Train → Effect
+rowOnly row t = rowAndRun row t noSlot 0 false
 
 -- the rows with one changed
 abbrev pub rowChanged : List Train → Change → List Train

@@ -2,35 +2,22 @@
 use mathlib.Core.Bool.{Bool, true, false, not, _||_}
 use Prim.Native.Nat.{ℕ}
 use lib.Dec.{eqb}
-use Rattle.sos.specs.Classes.{classOf}
-use Rattle.sos.specs.Grids.{NA, cellOf, measureOf, aspectOf}
-use Rattle.sos.specs.Shares.{shareOfL1, shareOfL2}
-use Rattle.sos.specs.declared.shares.Share.{Share}
-use Rattle.sos.specs.declared.shares.Share.the-variants.{Nothing, NoPosition, Order}
-use Rattle.trains.specs.Kinds.{locoInRange}
-use Rattle.trains.specs.Orders.{hasPlace, withOrder}
-use Rattle.trains.specs.Ranges.{isGrid}
-use Rattle.trains.specs.declared.kinds.Ticket.{Ticket}
-use Rattle.trains.specs.declared.record.Train.{Train}
-use Rattle.rules.specs.declared.named.Named.{Named}
-use Rattle.rules.specs.declared.ruling.Ruling.{Ruling}
-use Rattle.rules.specs.Effect.{change, rowsOnly}
+use Rattle.sos.specs.{Classes.classOf, Grids.NA, Grids.cellOf, Grids.measureOf, Grids.aspectOf, Shares.shareOfL1, Shares.shareOfL2}
+use Rattle.sos.specs.declared.shares.Share.{Share, the-variants.Nothing, the-variants.NoPosition, the-variants.Order}
+use Rattle.trains.specs.{Kinds.locoInRange, Orders.hasPlace, Orders.withOrder, Ranges.isGrid}
+use Rattle.trains.specs.declared.{kinds.Ticket.Ticket, record.Train.Train}
+use Rattle.rules.specs.declared.{named.Named.Named, raising.Side.Side, ruling.Ruling.Ruling}
+use Rattle.rules.specs.Effect.{noSlot, change, effect}
 use Rattle.rules.specs.Refusals.{badLoco, noLiveTrain, sameTrain, badGrid, noClass, notApplicable, noPosition, noPlace}
-use Rattle.rules.specs.Ruling.{acceptedWith, ruling, when, unless}
+use Rattle.rules.specs.Ruling.{acceptedWith, ruling, when}
 
--- ---- one train's share
+-- ---- one train
 
--- a share that needs a position that was never reported
-unfoldable pub lacksPosition : Share → Bool
-lacksPosition Nothing = false
-lacksPosition NoPosition = true
-lacksPosition (Order limit) = false
-
--- a share for which the train has no place under the other's ticket
-unfoldable pub lacksPlace : Share → Ticket → Train → Bool
-lacksPlace Nothing other t = false
-lacksPlace NoPosition other t = false
-lacksPlace (Order limit) other t = not (hasPlace t other)
+-- what a share lacks: a position that was never reported, or a place where the train has none; 0 for nothing
+unfoldable pub shareGround : Share → Bool → ℕ
+shareGround Nothing place = 0
+shareGround NoPosition place = noPosition
+shareGround (Order limit) place = when (not place) noPlace 0
 
 -- a train with its share taken, under the other's ticket
 unfoldable pub shareTaken : Share → Ticket → Train → Train
@@ -38,11 +25,21 @@ shareTaken Nothing other t = t
 shareTaken NoPosition other t = t
 shareTaken (Order limit) other t = withOrder t other limit
 
--- ---- the two trains
-
 -- the row class of a train; 0 for none
 abbrev pub trainClass : Train → ℕ
 trainClass t = classOf (t .mode) (t .left)
+
+-- one train as it is judged: its name, its row and row class, and what its share lacks under the other's ticket
+abbrev pub sideOf : Named → Share → Ticket → Side
+sideOf n share other = record {
+  loco = locoInRange (n .loco);
+  live = n .live;
+  row = n .row;
+  class = trainClass (n .train);
+  lacks = shareGround share (hasPlace (n .train) other);
+}
+
+-- ---- the two trains
 
 -- the cell of the grid, by L2's class
 abbrev pub cellFor : ℕ → Train → ℕ
@@ -57,23 +54,23 @@ abbrev pub shareFor1 : ℕ → Train → Train → Share
 shareFor1 grid l2 l1 = shareOfL1 (measureOf (cellFor grid l2)) l1
 
 -- THE GROUNDS on which an SOS is refused, in the order of the checks
+abbrev pub sideGround : ℕ → ℕ → Side → Side → ℕ
+sideGround grid cell l2 l1 =
+    when (not (l2 .loco) || not (l1 .loco)) badLoco
+    (when (not (l2 .live) || not (l1 .live)) noLiveTrain
+    (when (eqb (l2 .row) (l1 .row)) sameTrain
+    (when (not (isGrid grid)) badGrid
+    (when (eqb (l2 .class) 0 || eqb (l1 .class) 0) noClass
+    (when (eqb cell NA) notApplicable
+    (when (eqb (l2 .lacks) noPosition || eqb (l1 .lacks) noPosition) noPosition
+    (when (eqb (l2 .lacks) noPlace || eqb (l1 .lacks) noPlace) noPlace
+    0)))))))
+
 unfoldable pub sosGround : ℕ → ℕ → Named → Named → ℕ
 sosGround margin grid l2 l1 =
     let t2 : Train = l2 .train in
     let t1 : Train = l1 .train in
-    let share2 : Share = shareFor2 margin grid t2 t1 in
-    let share1 : Share = shareFor1 grid t2 t1 in
-    unless (locoInRange (l2 .loco)) badLoco
-    (unless (locoInRange (l1 .loco)) badLoco
-    (unless (l2 .live) noLiveTrain
-    (unless (l1 .live) noLiveTrain
-    (when (eqb (l2 .row) (l1 .row)) sameTrain
-    (unless (isGrid grid) badGrid
-    (when (eqb (trainClass t2) 0 || eqb (trainClass t1) 0) noClass
-    (when (eqb (cellFor grid t2) NA) notApplicable
-    (when (lacksPosition share2 || lacksPosition share1) noPosition
-    (when (lacksPlace share2 (t1 .ticket) t2 || lacksPlace share1 (t2 .ticket) t1) noPlace
-    0)))))))))
+    sideGround grid (cellFor grid t2) (sideOf l2 (shareFor2 margin grid t2 t1) (t1 .ticket)) (sideOf l1 (shareFor1 grid t2 t1) (t2 .ticket))
 
 -- SOS: M and S of the cell, and each train with its share
 unfoldable pub raised : ℕ → ℕ → Ticket → Named → Named → Ruling
@@ -81,5 +78,5 @@ raised margin grid counter l2 l1 =
     let t2 : Train = l2 .train in
     let t1 : Train = l1 .train in
     ruling (acceptedWith (measureOf (cellFor grid t2)) (aspectOf (cellFor grid t2)) 0) counter
-    (rowsOnly (change (l2 .row) (shareTaken (shareFor2 margin grid t2 t1) (t1 .ticket) t2))
+    (effect noSlot 0 false (change (l2 .row) (shareTaken (shareFor2 margin grid t2 t1) (t1 .ticket) t2))
     (change (l1 .row) (shareTaken (shareFor1 grid t2 t1) (t2 .ticket) t1)))

@@ -1,78 +1,59 @@
 -- The grounds on which a call on a session is refused, each with its number (document 01, "Session answers"), in the order of the checks.
 use Prim.Native.Nat.{ℕ}
 
--- a record with a wrong mark, kind or length, or cut
-abbrev pub badRecord : ℕ
+abbrev pub badRecord : ℕ  -- a record with a wrong mark, kind or length, or cut
 badRecord = 24
 
--- the lent session has another length
-abbrev pub wrongLength : ℕ
+abbrev pub wrongLength : ℕ  -- the lent session has another length
 wrongLength = 34
 
--- a named loco number out of range
-abbrev pub badLoco : ℕ
+abbrev pub badLoco : ℕ  -- a named loco number out of range
 badLoco = 10
 
--- a request for no bytes, or for too many
-abbrev pub badBytes : ℕ
+abbrev pub badBytes : ℕ  -- a request for no bytes, or for too many
 badBytes = 11
 
--- the loco is registered already
-abbrev pub alreadyRegistered : ℕ
+abbrev pub alreadyRegistered : ℕ  -- the loco is registered already
 alreadyRegistered = 12
 
--- 24 trains are registered
-abbrev pub registerFull : ℕ
+abbrev pub registerFull : ℕ  -- 24 trains are registered
 registerFull = 13
 
--- the ticket counter is at its last number
-abbrev pub noTicketLeft : ℕ
+abbrev pub noTicketLeft : ℕ  -- the ticket counter is at its last number
 noTicketLeft = 14
 
--- no free run of slots is long enough
-abbrev pub noFreeRun : ℕ
+abbrev pub noFreeRun : ℕ  -- no free run of slots is long enough
 noFreeRun = 15
 
--- no live train has this loco and ticket
-abbrev pub noLiveTrain : ℕ
+abbrev pub noLiveTrain : ℕ  -- no live train has this loco and ticket
 noLiveTrain = 16
 
--- both trains of an SOS are the same
-abbrev pub sameTrain : ℕ
+abbrev pub sameTrain : ℕ  -- both trains of an SOS are the same
 sameTrain = 23
 
--- a position that is none: a location out of range, or the rear above the front
-abbrev pub badPosition : ℕ
+abbrev pub badPosition : ℕ  -- a position that is none: a location out of range, or the rear above the front
 badPosition = 17
 
--- an authority's end or a danger location out of range
-abbrev pub badLocation : ℕ
+abbrev pub badLocation : ℕ  -- an authority's end or a danger location out of range
 badLocation = 17
 
--- no grid has this number
-abbrev pub badGrid : ℕ
+abbrev pub badGrid : ℕ  -- no grid has this number
 badGrid = 17
 
--- a train of an SOS whose mode has no row class
-abbrev pub noClass : ℕ
+abbrev pub noClass : ℕ  -- a train of an SOS whose mode has no row class
 noClass = 19
 
--- the grid gives nothing for L2's class
-abbrev pub notApplicable : ℕ
+abbrev pub notApplicable : ℕ  -- the grid gives nothing for L2's class
 notApplicable = 19
 
--- a position that the measure needs was never reported
-abbrev pub noPosition : ℕ
+abbrev pub noPosition : ℕ  -- a position that the measure needs was never reported
 noPosition = 18
 
--- no place for an order
-abbrev pub noPlace : ℕ
+abbrev pub noPlace : ℕ  -- no place for an order
 noPlace = 20
 
--- no order under that ticket
-abbrev pub noSuchOrder : ℕ
+abbrev pub noSuchOrder : ℕ  -- no order under that ticket
 noSuchOrder = 21
 
--- a step back by more than the entries kept
-abbrev pub tooFarBack : ℕ
+abbrev pub tooFarBack : ℕ  -- a step back by more than the entries kept
 tooFarBack = 22

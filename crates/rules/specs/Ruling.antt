@@ -3,11 +3,11 @@
 use mathlib.Core.Bool.{Bool, cond}
 use Prim.Native.Nat.{ℕ}
 use lib.Dec.{eqb}
-use Rattle.trains.specs.declared.kinds.Ticket.{Ticket}
+use Rattle.trains.specs.{Record.blankTrain, declared.kinds.Ticket.Ticket}
 use Rattle.rules.specs.declared.effect.Effect.{Effect}
 use Rattle.rules.specs.declared.ruling.Answer.{Answer}
 use Rattle.rules.specs.declared.ruling.Ruling.{Ruling}
-use Rattle.rules.specs.Effect.{noEffect}
+use Rattle.rules.specs.Effect.{noRow, rowOnly}
 
 -- ---- grounds
 
@@ -39,7 +39,7 @@ ruling answer counter effect = record { answer = answer; counter = counter; effe
 
 -- an operation that is refused: the counter stays, and there is no effect
 abbrev pub refused : Ticket → ℕ → Ruling
-refused counter ground = ruling (refusedWith ground) counter noEffect
+refused counter ground = ruling (refusedWith ground) counter (rowOnly noRow blankTrain)
 
 -- refused on a ground; or, where there is none, what the operation does
 unfoldable pub ruled : Ticket → ℕ → Ruling → Ruling

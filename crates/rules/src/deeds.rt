@@ -1,16 +1,17 @@
 // Deeds, the operations on one train that is named. A deed takes the train and gives the answer and the train afterwards; it never sees a row.
-use crate::effect::Effect;
+use crate::named;
 use crate::named::Named;
 use crate::refusals;
 use crate::ruling::Answer;
 use crate::ruling::Ruling;
 use modes::Step;
+use trains::kinds::Slot;
 use trains::kinds::Ticket;
 use trains::ranges;
 use trains::record::Location;
 use trains::record::Train;
 ghost use mathlib.Core.Path.{_≡_};
-ghost use Rattle.rules.specs.Deeds.{meant, endAnswer, changedIf, stepTaken, modeStepped, done, deedGround, deedDone, endAsked};
+ghost use Rattle.rules.specs.Deeds.{meant, endAnswer, changedIf, modeStepped, done, deedGround, deedDone, endAsked};
 ghost use Rattle.rules.specs.Ruling.{ruled};
 
 // Flags are lent beside the deed, since an enum holds no slice.
@@ -57,17 +58,7 @@ impl Changed {
     }
 }
 
-// The train after a mode step; a step that stays changes nothing.
-fn take_step(train: Train, step: Step) -> Train
-    ensures { λ r. ⌜ r ≡ stepTaken train step ⌝ }
-{
-    if step.priority == 0 {
-        return train;
-    }
-    train.with_mode(step.mode)
-}
-
-// A mode step, refused with the step's own number.
+// A mode step, refused with the step's own number; a step that stays changes nothing.
 fn step(train: Train, step: Step) -> Changed
     ensures { λ r. ⌜ r ≡ modeStepped train step ⌝ }
 {
@@ -77,9 +68,13 @@ fn step(train: Train, step: Step) -> Changed
             train,
         };
     }
+    let answer = Answer::accepted(step.mode, step.priority, step.tie);
+    if step.priority == 0 {
+        return Changed { answer, train };
+    }
     Changed {
-        answer: Answer::accepted(step.mode, step.priority, step.tie),
-        train: take_step(train, step),
+        answer,
+        train: train.with_mode(step.mode),
     }
 }
 
@@ -124,24 +119,18 @@ pub fn on(named: Named, deed: Deed, flags: &[u8], counter: Ticket) -> Ruling
 {
     let train = named.train;
     let changed = act(deed, flags, train);
-    let answer = changed.answer;
+    let own = changed.answer;
     let after = changed.train;
-    let done = Ruling {
-        answer,
-        counter,
-        effect: Effect::row_only(named.row, after),
-    };
-    done.unless(counter, named.ground(answer.answer))
+    let loco = named.loco;
+    let answer = named::answer(loco, named.live, own);
+    Ruling::answered(answer, counter, Slot(0), 0, named.row, after)
 }
 
 // The effective end of a named train, asked: nothing is changed.
 pub fn end_asked(named: Named) -> Answer
     ensures { λ r. ⌜ r ≡ endAsked named ⌝ }
 {
-    let ground = named.ground(0);
-    if ground != 0 {
-        return Answer::refused(ground);
-    }
+    let loco = named.loco;
     let train = named.train;
-    end_answer(train.end())
+    named::answer(loco, named.live, end_answer(train.end()))
 }

@@ -1,10 +1,11 @@
 // The train that a loco and a ticket name together.
 use crate::refusals;
+use crate::ruling::Answer;
 use trains::kinds::Loco;
 use trains::record::Train;
 use trains::sought::ROWS;
 ghost use mathlib.Core.Path.{_≡_};
-ghost use Rattle.rules.specs.Named.{nobody, nameGround};
+ghost use Rattle.rules.specs.Named.{nobody, nameAnswer};
 
 // The loco that was named, and whether a live train has it and the ticket: then the train and its row, else a blank one and no row.
 pub struct Named {
@@ -25,17 +26,17 @@ impl Named {
             train: Train::blank(),
         }
     }
+}
 
-    // The ground on which the name is refused, or else the one that follows.
-    pub fn ground(self, next: u32) -> u32
-        ensures { λ r. ⌜ r ≡ nameGround self next ⌝ }
-    {
-        if !self.loco.in_range() {
-            return refusals::BAD_LOCO;
-        }
-        if !self.live {
-            return refusals::NO_LIVE_TRAIN;
-        }
-        next
+// What is answered where a train is named: the refusal of its name, or else the answer itself.
+pub(crate) fn answer(loco: Loco, live: bool, answer: Answer) -> Answer
+    ensures { λ r. ⌜ r ≡ nameAnswer loco live answer ⌝ }
+{
+    if !loco.in_range() {
+        return Answer::refused(refusals::BAD_LOCO);
     }
+    if !live {
+        return Answer::refused(refusals::NO_LIVE_TRAIN);
+    }
+    answer
 }

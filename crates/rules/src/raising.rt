@@ -1,6 +1,4 @@
 // SOS between L1 and L2: each train's order by the cell of the grid, under the other train's ticket. All is judged before anything is changed.
-use crate::effect::Change;
-use crate::effect::Effect;
 use crate::named::Named;
 use crate::refusals;
 use crate::ruling::Answer;
@@ -9,36 +7,42 @@ use sos::classes;
 use sos::grids;
 use sos::shares;
 use sos::shares::Share;
+use trains::kinds::Slot;
 use trains::kinds::Ticket;
 use trains::ranges;
 use trains::record::Train;
-ghost use mathlib.Core.Bool.{_||_};
+ghost use mathlib.Core.Bool.{cond, _&&_};
 ghost use mathlib.Core.Path.{_≡_};
 ghost use lib.Dec.{eqb};
-ghost use Rattle.rules.specs.Raising.{lacksPosition, lacksPlace, shareTaken, trainClass, cellFor, shareFor2, shareFor1, sosGround, raised};
+ghost use Rattle.rules.specs.Raising.{shareGround, shareTaken, sideOf, sideGround, sosGround, raised};
 ghost use Rattle.rules.specs.Ruling.{ruled};
 
 const NA: u32 = 0;
 
-// Does the share need a position that was never reported?
-fn lacks_position(share: Share) -> bool
-    ensures { λ r. ⌜ r ≡ lacksPosition share ⌝ }
-{
-    match share {
-        Share::Nothing => false,
-        Share::NoPosition => true,
-        Share::Order(_) => false,
-    }
+// One train of an SOS as it is judged: whether its loco number is in range and names a live train, its row and row class, and what its share lacks.
+struct Side {
+    loco: bool,
+    live: bool,
+    row: usize,
+    class: u32,
+    lacks: u32,
 }
 
-// Has the train no place for its share under the other's ticket?
-fn lacks_place(share: Share, other: Ticket, train: Train) -> bool
-    ensures { λ r. ⌜ r ≡ lacksPlace share other train ⌝ }
+// In a chain of checks, from the first on: the ground that was found; where there is none yet, the next check's, where its test holds.
+fn first(ground: u32, test: bool, next: u32) -> u32
+    ensures { λ r. ⌜ r ≡ cond (eqb ground 0 && test) next ground ⌝ }
+{
+    if (ground == 0) & test { next } else { ground }
+}
+
+// What a share lacks: a position that was never reported, or a place where the train has none; 0 for nothing.
+fn lacks(share: Share, place: bool) -> u32
+    ensures { λ r. ⌜ r ≡ shareGround share place ⌝ }
 {
     match share {
-        Share::Nothing => false,
-        Share::NoPosition => false,
-        Share::Order(_) => !train.has_place(other),
+        Share::Nothing => 0,
+        Share::NoPosition => refusals::NO_POSITION,
+        Share::Order(_) => first(0, !place, refusals::NO_PLACE),
     }
 }
 
@@ -53,125 +57,57 @@ fn take_share(share: Share, other: Ticket, train: Train) -> Train
     }
 }
 
-fn class_of(train: Train) -> u32
-    ensures { λ r. ⌜ r ≡ trainClass train ⌝ }
+fn side_of(named: Named, share: Share, other: Ticket) -> Side
+    ensures { λ r. ⌜ r ≡ sideOf named share other ⌝ }
 {
-    classes::class_of(train.mode, train.left)
-}
-
-// Has either train no row class?
-fn class_missing(t2: Train, t1: Train) -> bool
-    ensures { λ r. ⌜ r ≡ (eqb (trainClass t2) 0 || eqb (trainClass t1) 0) ⌝ }
-{
-    class_of(t2) == 0 || class_of(t1) == 0
-}
-
-// Does either share need a position that was never reported?
-fn position_missing(share2: Share, share1: Share) -> bool
-    ensures { λ r. ⌜ r ≡ (lacksPosition share2 || lacksPosition share1) ⌝ }
-{
-    lacks_position(share2) || lacks_position(share1)
-}
-
-// Has either train no place for its share?
-fn place_missing(share2: Share, t2: Train, share1: Share, t1: Train) -> bool
-    ensures { λ r. ⌜ r ≡ (lacksPlace share2 (t1 .ticket) t2 || lacksPlace share1 (t2 .ticket) t1) ⌝ }
-{
-    let ticket2 = t2.ticket;
-    let ticket1 = t1.ticket;
-    lacks_place(share2, ticket1, t2) || lacks_place(share1, ticket2, t1)
-}
-
-fn cell_for(grid: u32, t2: Train) -> u32
-    ensures { λ r. ⌜ r ≡ cellFor grid t2 ⌝ }
-{
-    grids::cell(grid, class_of(t2))
-}
-
-fn share_for_2(margin: u32, grid: u32, t2: Train, t1: Train) -> Share
-    ensures { λ r. ⌜ r ≡ shareFor2 margin grid t2 t1 ⌝ }
-{
-    shares::share_of_l2(grids::measure(cell_for(grid, t2)), t1, t2, margin)
-}
-
-fn share_for_1(grid: u32, t2: Train, t1: Train) -> Share
-    ensures { λ r. ⌜ r ≡ shareFor1 grid t2 t1 ⌝ }
-{
-    shares::share_of_l1(grids::measure(cell_for(grid, t2)), t1)
+    let loco = named.loco;
+    let train = named.train;
+    Side {
+        loco: loco.in_range(),
+        live: named.live,
+        row: named.row,
+        class: classes::class_of(train.mode, train.left),
+        lacks: lacks(share, train.has_place(other)),
+    }
 }
 
 // The ground on which an SOS is refused, in the order of the checks; 0 for none.
-fn ground(margin: u32, grid: u32, l2: Named, l1: Named) -> u32
-    ensures { λ r. ⌜ r ≡ sosGround margin grid l2 l1 ⌝ }
+fn ground(grid: u32, cell: u32, l2: Side, l1: Side) -> u32
+    ensures { λ r. ⌜ r ≡ sideGround grid cell l2 l1 ⌝ }
 {
-    if !l2.loco.in_range() {
-        return refusals::BAD_LOCO;
-    }
-    if !l1.loco.in_range() {
-        return refusals::BAD_LOCO;
-    }
-    if !l2.live {
-        return refusals::NO_LIVE_TRAIN;
-    }
-    if !l1.live {
-        return refusals::NO_LIVE_TRAIN;
-    }
-    if l2.row == l1.row {
-        return refusals::SAME_TRAIN;
-    }
-    if !ranges::is_grid(grid) {
-        return refusals::BAD_GRID;
-    }
-    let t2 = l2.train;
-    let t1 = l1.train;
-    if class_missing(t2, t1) {
-        return refusals::NO_CLASS;
-    }
-    if cell_for(grid, t2) == NA {
-        return refusals::NOT_APPLICABLE;
-    }
-    let share2 = share_for_2(margin, grid, t2, t1);
-    let share1 = share_for_1(grid, t2, t1);
-    if position_missing(share2, share1) {
-        return refusals::NO_POSITION;
-    }
-    if place_missing(share2, t2, share1, t1) {
-        return refusals::NO_PLACE;
-    }
-    0
+    let ground = first(0, !l2.loco | !l1.loco, refusals::BAD_LOCO);
+    let ground = first(ground, !l2.live | !l1.live, refusals::NO_LIVE_TRAIN);
+    let ground = first(ground, l2.row == l1.row, refusals::SAME_TRAIN);
+    let ground = first(ground, !ranges::is_grid(grid), refusals::BAD_GRID);
+    let class = (l2.class == 0) | (l1.class == 0);
+    let ground = first(ground, class, refusals::NO_CLASS);
+    let ground = first(ground, cell == NA, refusals::NOT_APPLICABLE);
+    let position = (l2.lacks == refusals::NO_POSITION) | (l1.lacks == refusals::NO_POSITION);
+    let ground = first(ground, position, refusals::NO_POSITION);
+    let place = (l2.lacks == refusals::NO_PLACE) | (l1.lacks == refusals::NO_PLACE);
+    first(ground, place, refusals::NO_PLACE)
 }
 
-// M and S of the cell, and each train with its share.
-fn give(margin: u32, grid: u32, counter: Ticket, l2: Named, l1: Named) -> Ruling
-    ensures { λ r. ⌜ r ≡ raised margin grid counter l2 l1 ⌝ }
+// SOS between two trains that were named: the cell and the shares are looked up once, then all is judged.
+pub fn raise(margin: u32, grid: u32, counter: Ticket, l2: Named, l1: Named) -> Ruling
+    ensures { λ r. ⌜ r ≡ ruled counter (sosGround margin grid l2 l1) (raised margin grid counter l2 l1) ⌝ }
 {
     let t2 = l2.train;
     let t1 = l1.train;
     let ticket2 = t2.ticket;
     let ticket1 = t1.ticket;
-    let cell = cell_for(grid, t2);
-    let changed = Change {
-        row: l2.row,
-        train: take_share(share_for_2(margin, grid, t2, t1), ticket1, t2),
-    };
-    let also = Change {
-        row: l1.row,
-        train: take_share(share_for_1(grid, t2, t1), ticket2, t1),
-    };
-    Ruling {
-        answer: Answer::accepted(grids::measure(cell), grids::aspect(cell), 0),
-        counter,
-        effect: Effect::rows_only(changed, also),
-    }
-}
-
-// SOS between two trains that were named.
-pub fn raise(margin: u32, grid: u32, counter: Ticket, l2: Named, l1: Named) -> Ruling
-    ensures { λ r. ⌜ r ≡ ruled counter (sosGround margin grid l2 l1) (raised margin grid counter l2 l1) ⌝ }
-{
-    let ground = ground(margin, grid, l2, l1);
+    let cell = grids::cell(grid, classes::class_of(t2.mode, t2.left));
+    let measure = grids::measure(cell);
+    let share2 = shares::share_of_l2(measure, t1, t2, margin);
+    let share1 = shares::share_of_l1(measure, t1);
+    let side2 = side_of(l2, share2, ticket1);
+    let side1 = side_of(l1, share1, ticket2);
+    let ground = ground(grid, cell, side2, side1);
     if ground != 0 {
         return Ruling::refused(counter, ground);
     }
-    give(margin, grid, counter, l2, l1)
+    let t2 = take_share(share2, ticket1, t2);
+    let t1 = take_share(share1, ticket2, t1);
+    let answer = Answer::accepted(measure, grids::aspect(cell), 0);
+    Ruling::of(answer, counter, Slot(0), 0, false, l2.row, t2, l1.row, t1)
 }

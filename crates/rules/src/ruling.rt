@@ -1,8 +1,14 @@
 // What the rules say of an operation: the answer, the ticket counter afterwards, and the effect on the view.
+use crate::effect::Change;
 use crate::effect::Effect;
+use trains::kinds::Slot;
 use trains::kinds::Ticket;
+use trains::record::Train;
+use trains::sought::ROWS;
+ghost use mathlib.Core.Bool.{false};
 ghost use mathlib.Core.Path.{_≡_};
-ghost use Rattle.rules.specs.Ruling.{acceptedWith, refusedWith, refused, ruled};
+ghost use Rattle.rules.specs.Effect.{change, effect, rowAndRun};
+ghost use Rattle.rules.specs.Ruling.{acceptedWith, refusedWith, ruling, refused, ruled};
 
 // What a call answers: 0 with three numbers, or a refusal's number with zeros.
 #[repr(C)]
@@ -44,25 +50,60 @@ impl Answer {
 }
 
 impl Ruling {
+    // A run of slots taken, or freed; a train in its row, and in one more.
+    pub(crate) fn of(
+        answer: Answer,
+        counter: Ticket,
+        start: Slot,
+        slots: u32,
+        taken: bool,
+        row: usize,
+        train: Train,
+        also: usize,
+        other: Train,
+    ) -> Ruling
+        ensures { λ r. ⌜ r ≡ ruling answer counter (effect start slots taken (change row train) (change also other)) ⌝ }
+    {
+        Ruling {
+            answer,
+            counter,
+            effect: Effect {
+                start,
+                slots,
+                taken,
+                changed: Change { row, train },
+                also: Change {
+                    row: also,
+                    train: other,
+                },
+            },
+        }
+    }
+
     // The counter stays, and there is no effect.
     pub fn refused(counter: Ticket, ground: u32) -> Ruling
         ensures { λ r. ⌜ r ≡ refused counter ground ⌝ }
     {
-        Ruling {
-            answer: Answer::refused(ground),
-            counter,
-            effect: Effect::none(),
-        }
+        let answer = Answer::refused(ground);
+        let none = Train::blank();
+        Ruling::of(answer, counter, Slot(0), 0, false, ROWS, none, ROWS, none)
     }
 
-    // Refused on a ground; or, where there is none, what the operation does.
-    pub fn unless(self, counter: Ticket, ground: u32) -> Ruling
-        ensures { λ r. ⌜ r ≡ ruled counter ground self ⌝ }
+    // Refused where the answer is; else one row is changed, and slots are freed.
+    pub(crate) fn answered(
+        answer: Answer,
+        counter: Ticket,
+        start: Slot,
+        slots: u32,
+        row: usize,
+        train: Train,
+    ) -> Ruling
+        ensures { λ r. ⌜ r ≡ ruled counter (answer .answer) (ruling answer counter (rowAndRun row train start slots false)) ⌝ }
     {
-        if ground == 0 {
-            self
-        } else {
-            Ruling::refused(counter, ground)
+        if answer.answer != 0 {
+            return Ruling::refused(counter, answer.answer);
         }
+        let none = Train::blank();
+        Ruling::of(answer, counter, start, slots, false, row, train, ROWS, none)
     }
 }

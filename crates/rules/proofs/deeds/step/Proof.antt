@@ -1,7 +1,7 @@
 -- `rules::deeds::step` meets its contract.
-use Rattle.rules.specs.Deeds.{modeStepped}
-use mathlib.Core.Path.{_∙_, ap}
-use borrow.Author.Tests.{eq-eqb, ne-eqb}
+use mathlib.Core.Path.{_≡_, refl, sym, ap, _∙_}
+use borrow.Author.Tests.{eq-eqb, ne-eqb, not-true, not-false}
+use Rattle.rules.specs.Deeds.{stepTaken, modeStepped}
 use borrow.Author.Needs.{needs}
 use Rattle.rules.proofs.deeds.step.Statement.{statement}
 use Rattle.rules.proofs.deeds.step.Tie as tie
@@ -11,8 +11,18 @@ unfolding modeStepped
 returns c = simp (ne-eqb _ _ (c .before .if1 .taken), c .refused .ensures)
 
 returns-2 : tie.Need-returns-2
-unfolding modeStepped
-returns-2 c = simp (eq-eqb _ _ (c .before .before .if1 .left), c .before .accepted .ensures, c .take-step .ensures)
+unfolding modeStepped stepTaken
+returns-2 c = simp (eq-eqb _ _ (c .before .before .before .if1 .left), c .before .before .accepted .ensures, eq-eqb _ _ (c .if2 .taken))
+
+returns-3 : tie.Need-returns-3
+unfolding modeStepped stepTaken
+returns-3 c =
+    simp (
+      eq-eqb _ _ (c .before .before .before .before .if1 .left),
+      c .before .before .before .accepted .ensures,
+      ne-eqb _ _ (c .before .if2 .left),
+      c .with-mode .ensures,
+    )
 
 pub step-spec : {M : Type 1} → statement M
-step-spec = tie.close (tie.spec (λ c κs. search needs) returns (λ c κs. search needs) (λ c κs. search needs) returns-2)
+step-spec = tie.close (tie.spec (λ c κs. search needs) returns (λ c κs. search needs) returns-2 (λ c κs. search needs) returns-3)
