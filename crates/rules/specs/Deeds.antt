@@ -4,38 +4,23 @@ use mathlib.Core.Bool.{Bool, cond}
 use mathlib.Core.List.{List}
 use Prim.Native.Nat.{ℕ}
 use lib.Dec.{eqb}
-use Rattle.modes.specs.Next.{nextStep}
-use Rattle.modes.specs.declared.Step.{Step}
-use Rattle.trains.specs.Authority.{endOf}
+use Rattle.modes.specs.{Next.nextStep, declared.Step.Step}
+use Rattle.trains.specs.{Authority.endOf, Orders.hasOrder, Orders.orderCleared, Ranges.isPosition, Ranges.isNoneOrLocation, Ranges.locationFrom}
 use Rattle.trains.specs.Changes.{withPosition, withAuthority, withDanger, withMode}
-use Rattle.trains.specs.Orders.{hasOrder, orderCleared}
-use Rattle.trains.specs.Ranges.{isPosition, isNoneOrLocation, locationFrom}
-use Rattle.trains.specs.declared.kinds.Ticket.{Ticket}
-use Rattle.trains.specs.declared.record.Location.{Location}
-use Rattle.trains.specs.declared.record.Location.the-variants.{Nowhere, At}
-use Rattle.trains.specs.declared.record.Train.{Train}
-use Rattle.rules.specs.declared.deeds.Changed.{Changed}
-use Rattle.rules.specs.declared.deeds.Deed.{Deed as Said}
-use Rattle.rules.specs.declared.deeds.Deed.the-variants.{Flags, Position, Authority, Danger, Clear}
-use Rattle.rules.specs.declared.named.Named.{Named}
-use Rattle.rules.specs.declared.ruling.Answer.{Answer}
-use Rattle.rules.specs.declared.ruling.Ruling.{Ruling}
-use Rattle.rules.specs.Effect.{rowOnly}
-use Rattle.rules.specs.Named.{nameGround, nameAnswer}
-use Rattle.rules.specs.Refusals.{badPosition, badLocation, noSuchOrder}
-use Rattle.rules.specs.Ruling.{acceptedWith, refusedWith, ruling}
+use Rattle.trains.specs.declared.{kinds.Ticket.Ticket, record.Train.Train}
+use Rattle.trains.specs.declared.record.Location.{Location, the-variants.Nowhere, the-variants.At}
+use Rattle.rules.specs.{Effect.rowOnly, Named.nameGround, Named.nameAnswer, Refusals.badPosition, Refusals.badLocation, Refusals.noSuchOrder}
+use Rattle.rules.specs.{Ruling.acceptedWith, Ruling.refusedWith, Ruling.ruling}
+use Rattle.rules.specs.declared.{deeds.Changed.Changed, named.Named.Named, ruling.Answer.Answer, ruling.Ruling.Ruling}
+use Rattle.rules.specs.declared.deeds.Deed.{Deed as Said, the-variants.Flags, the-variants.Position, the-variants.Authority}
+use Rattle.rules.specs.declared.deeds.Deed.{the-variants.Danger, the-variants.Clear}
 
 pub data Deed : Type 0 where
-  -- 91 condition flags
-  flags : List ℕ → Deed
-  -- front and rear
-  position : ℕ → ℕ → Deed
-  -- the granted end, or `none`
-  authority : ℕ → Deed
-  -- the danger location, or `none`
-  danger : ℕ → Deed
-  -- the order under another train's ticket cleared
-  clear : Ticket → Deed
+  flags : List ℕ → Deed  -- 91 condition flags
+  position : ℕ → ℕ → Deed  -- front and rear
+  authority : ℕ → Deed  -- the granted end, or `none`
+  danger : ℕ → Deed  -- the danger location, or `none`
+  clear : Ticket → Deed  -- the order under another train's ticket cleared
 
 -- the deed that the code's enum says, with the flags that are lent beside it
 abbrev pub meant : Said → List ℕ → Deed
@@ -44,8 +29,6 @@ meant (Position front rear) fs = position front rear
 meant (Authority end) fs = authority end
 meant (Danger location) fs = danger location
 meant (Clear other) fs = clear other
-
--- ---- what a deed comes to
 
 -- the answer for a train's end: 1 and the effective end, or zeros for none
 unfoldable pub endAnswer : Location → Answer
@@ -76,8 +59,6 @@ done (position front rear) t = changedIf (isPosition front rear) badPosition t (
 done (authority end) t = changedIf (isNoneOrLocation end) badLocation t (withAuthority t (locationFrom end))
 done (danger location) t = changedIf (isNoneOrLocation location) badLocation t (withDanger t (locationFrom location))
 done (clear other) t = changedIf (hasOrder t other) noSuchOrder t (orderCleared t other)
-
--- ---- on a train that is named
 
 -- the grounds on which a deed is refused: those of the name, then its own
 abbrev pub deedGround : Named → Changed → ℕ

@@ -3,15 +3,10 @@ use mathlib.Core.Bool.{Bool, true, false, cond}
 use mathlib.Core.List.{List}
 use Prim.Native.Nat.{ℕ, zero, suc, _-_}
 use lib.ListN.{set}
-use Rattle.trains.specs.Kinds.{lastSlot}
-use Rattle.trains.specs.Ranges.{oneTo}
-use Rattle.trains.specs.Record.{blankTrain}
-use Rattle.trains.specs.Sought.{rowCount}
-use Rattle.trains.specs.declared.kinds.Slot.{Slot}
-use Rattle.trains.specs.declared.record.Train.{Train}
-use Rattle.rules.specs.declared.effect.Change.{Change}
-use Rattle.rules.specs.declared.effect.Effect.{Effect}
-use Rattle.rules.specs.View.{View}
+use Rattle.trains.specs.{Kinds.lastSlot, Ranges.oneTo, Record.blankTrain, Sought.rowCount}
+use Rattle.trains.specs.declared.{kinds.Slot.Slot, record.Train.Train}
+use Rattle.rules.specs.{View.View}
+use Rattle.rules.specs.declared.{effect.Change.Change, effect.Effect.Effect}
 
 -- how a slot is marked: 1 where it is taken, 0 where it is free
 unfoldable pub markFor : Bool → ℕ
@@ -30,13 +25,9 @@ marked book slot (suc n) mark = marked (slotMarked book slot mark) (suc slot) n 
 abbrev pub change : ℕ → Train → Change
 change row t = record { row = row; train = t }
 
--- the number of no row: a change there changes nothing
-abbrev pub noRow : ℕ
-noRow = rowCount
-
--- no row changed
+-- no row changed: there is no row with this number
 abbrev pub noChange : Change
-noChange = change noRow blankTrain
+noChange = change rowCount blankTrain
 
 -- an effect by its parts
 abbrev pub effect : Slot → ℕ → Bool → Change → Change → Effect

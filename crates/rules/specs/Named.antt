@@ -1,22 +1,15 @@
 -- The train that a loco and a ticket name together.
 use mathlib.Core.Bool.{Bool, true, false, cond}
 use Prim.Native.Nat.{ℕ}
-use Rattle.trains.specs.Kinds.{locoInRange}
-use Rattle.trains.specs.Record.{blankTrain}
-use Rattle.trains.specs.declared.found.Found.{Found}
-use Rattle.trains.specs.declared.found.Found.the-variants.{Nothing, Index}
-use Rattle.trains.specs.declared.kinds.Loco.{Loco}
-use Rattle.trains.specs.declared.kinds.Ticket.{Ticket}
-use Rattle.trains.specs.declared.sought.Sought.the-variants.{Pair}
+use Rattle.trains.specs.{Kinds.locoInRange, Record.blankTrain, Sought.rowCount}
+use Rattle.trains.specs.declared.{kinds.Loco.Loco, kinds.Ticket.Ticket, sought.Sought.the-variants.Pair}
+use Rattle.trains.specs.declared.found.Found.{Found, the-variants.Nothing, the-variants.Index}
+use Rattle.rules.specs.{Refusals.badLoco, Refusals.noLiveTrain, Ruling.refusedWith, Ruling.unless, View.View, View.rowIn, View.findIn}
 use Rattle.rules.specs.declared.{named.Named.Named, ruling.Answer.Answer}
-use Rattle.rules.specs.Effect.{noRow}
-use Rattle.rules.specs.Refusals.{badLoco, noLiveTrain}
-use Rattle.rules.specs.Ruling.{refusedWith, unless}
-use Rattle.rules.specs.View.{View, rowIn, findIn}
 
 -- nobody is named
 abbrev pub nobody : Loco → Named
-nobody loco = record { loco = loco; live = false; row = noRow; train = blankTrain }
+nobody loco = record { loco = loco; live = false; row = rowCount; train = blankTrain }
 
 -- the train in the row that was found
 unfoldable pub inRow : Loco → View → Found → Named

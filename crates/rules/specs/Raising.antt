@@ -2,14 +2,14 @@
 use mathlib.Core.Bool.{Bool, true, false, not, _||_}
 use Prim.Native.Nat.{ℕ}
 use lib.Dec.{eqb}
-use Rattle.sos.specs.{Classes.classOf, Grids.NA, Grids.cellOf, Grids.measureOf, Grids.aspectOf, Shares.shareOfL1, Shares.shareOfL2}
+use Rattle.sos.specs.{Classes.classOf, Shares.shareOfL1, Shares.shareOfL2}
+use Rattle.sos.specs.Grids.{NA, cellOf, measureOf, aspectOf}
 use Rattle.sos.specs.declared.shares.Share.{Share, the-variants.Nothing, the-variants.NoPosition, the-variants.Order}
 use Rattle.trains.specs.{Kinds.locoInRange, Orders.hasPlace, Orders.withOrder, Ranges.isGrid}
 use Rattle.trains.specs.declared.{kinds.Ticket.Ticket, record.Train.Train}
-use Rattle.rules.specs.declared.{named.Named.Named, raising.Side.Side, ruling.Ruling.Ruling}
-use Rattle.rules.specs.Effect.{noSlot, change, effect}
+use Rattle.rules.specs.{Effect.noSlot, Effect.change, Effect.effect, Ruling.acceptedWith, Ruling.ruling, Ruling.when}
 use Rattle.rules.specs.Refusals.{badLoco, noLiveTrain, sameTrain, badGrid, noClass, notApplicable, noPosition, noPlace}
-use Rattle.rules.specs.Ruling.{acceptedWith, ruling, when}
+use Rattle.rules.specs.declared.{named.Named.Named, raising.Side.Side, ruling.Ruling.Ruling}
 
 -- ---- one train
 

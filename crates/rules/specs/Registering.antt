@@ -1,25 +1,15 @@
 -- Trains come and go: REQUEST and RELEASE.
 use mathlib.Core.Bool.{true, false}
 use Prim.Native.Nat.{ℕ, suc}
-use Rattle.trains.specs.Found.{isFound}
-use Rattle.trains.specs.Kinds.{lastTicket, isAbove, locoInRange}
-use Rattle.trains.specs.Record.{blankTrain, freshTrain}
-use Rattle.trains.specs.declared.found.Found.{Found}
-use Rattle.trains.specs.declared.found.Found.the-variants.{Nothing, Index}
-use Rattle.trains.specs.declared.kinds.Loco.{Loco}
-use Rattle.trains.specs.declared.kinds.Slot.{Slot}
-use Rattle.trains.specs.declared.kinds.Ticket.{Ticket}
-use Rattle.trains.specs.declared.sought.Sought.the-variants.{Number, Empty}
-use Rattle.rules.specs.declared.named.Named.{Named}
-use Rattle.rules.specs.declared.ruling.Ruling.{Ruling}
-use Rattle.rules.specs.declared.slots.FreeRun.{FreeRun}
-use Rattle.rules.specs.Effect.{noRow, rowAndRun}
+use Rattle.trains.specs.{Found.isFound, Kinds.lastTicket, Kinds.isAbove, Kinds.locoInRange, Record.blankTrain, Record.freshTrain, Sought.rowCount}
+use Rattle.trains.specs.declared.{kinds.Loco.Loco, kinds.Slot.Slot, kinds.Ticket.Ticket}
+use Rattle.trains.specs.declared.found.Found.{Found, the-variants.Nothing, the-variants.Index}
+use Rattle.trains.specs.declared.sought.Sought.{the-variants.Number, the-variants.Empty}
+use Rattle.rules.specs.{Effect.rowAndRun, View.View, View.findIn}
 use Rattle.rules.specs.Refusals.{badLoco, badBytes, alreadyRegistered, registerFull, noTicketLeft, noFreeRun}
 use Rattle.rules.specs.Ruling.{acceptedWith, ruling, when, unless}
 use Rattle.rules.specs.Slots.{isRequest, slotsFor, lowestRun, isRunFound, startOf}
-use Rattle.rules.specs.View.{View, findIn}
-
--- ---- tickets
+use Rattle.rules.specs.declared.{named.Named.Named, ruling.Ruling.Ruling}
 
 -- the ticket with a number
 abbrev pub ticketOf : ℕ → Ticket
@@ -28,8 +18,6 @@ ticketOf n = record { 0 = n }
 -- THE NEXT TICKET: the one that a grant takes where the counter stands here
 unfoldable pub ticketFor : Ticket → Ticket
 ticketFor counter = ticketOf (suc (counter .0))
-
--- ---- request
 
 -- the grounds on which a request of bytes is refused, in the order of the checks
 unfoldable pub requestGround : ℕ → Loco → ℕ → Ticket → View → ℕ
@@ -44,7 +32,7 @@ requestGround perSlot loco bytes counter v =
 
 -- the row that was found; no row where there is none
 unfoldable pub rowOfFound : Found → ℕ
-rowOfFound Nothing = noRow
+rowOfFound Nothing = rowCount
 rowOfFound (Index row) = row
 
 -- a train granted: in a row, under a ticket, which is the counter afterwards, with its slots taken
@@ -56,8 +44,6 @@ granted loco slots ticket row start =
 abbrev pub requested : ℕ → Loco → ℕ → Ticket → View → Ruling
 requested perSlot loco bytes ticket v =
     granted loco (slotsFor perSlot bytes) ticket (rowOfFound (findIn v Empty)) (startOf (lowestRun (v .book) (slotsFor perSlot bytes)))
-
--- ---- release
 
 -- RELEASE: the row is blank, and its slots are free at once
 unfoldable pub released : Ticket → Named → Ruling

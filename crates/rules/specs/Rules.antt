@@ -2,16 +2,11 @@
 -- so a replay that keeps each grant's ticket is the same rule.
 use mathlib.Core.Bool.{Bool, true, false}
 use Prim.Native.Nat.{ℕ}
-use Rattle.trains.specs.declared.kinds.Loco.{Loco}
-use Rattle.trains.specs.declared.kinds.Ticket.{Ticket}
-use Rattle.rules.specs.declared.ruling.Ruling.{Ruling}
-use Rattle.rules.specs.declared.settings.Settings.{Settings}
+use Rattle.trains.specs.declared.{kinds.Loco.Loco, kinds.Ticket.Ticket}
+use Rattle.rules.specs.{Named.namedIn, Named.nameGround, Raising.sosGround, Raising.raised, Registering.requestGround, Registering.requested}
+use Rattle.rules.specs.{Registering.released, Ruling.ruled, View.View}
 use Rattle.rules.specs.Deeds.{Deed, done, deedGround, deedDone}
-use Rattle.rules.specs.Named.{namedIn, nameGround}
-use Rattle.rules.specs.Raising.{sosGround, raised}
-use Rattle.rules.specs.Registering.{requestGround, requested, released}
-use Rattle.rules.specs.Ruling.{ruled}
-use Rattle.rules.specs.View.{View}
+use Rattle.rules.specs.declared.{ruling.Ruling.Ruling, settings.Settings.Settings}
 
 -- the operations, step-back apart; an SOS names L2 first
 pub data Op : Type 0 where

@@ -3,13 +3,10 @@
 use mathlib.Core.Bool.{Bool, cond}
 use Prim.Native.Nat.{ℕ}
 use lib.Dec.{eqb}
-use Rattle.trains.specs.{Record.blankTrain, declared.kinds.Ticket.Ticket}
-use Rattle.rules.specs.declared.effect.Effect.{Effect}
-use Rattle.rules.specs.declared.ruling.Answer.{Answer}
-use Rattle.rules.specs.declared.ruling.Ruling.{Ruling}
-use Rattle.rules.specs.Effect.{noRow, rowOnly}
-
--- ---- grounds
+use Rattle.trains.specs.{Record.blankTrain, Sought.rowCount}
+use Rattle.trains.specs.declared.{kinds.Ticket.Ticket}
+use Rattle.rules.specs.{Effect.rowOnly}
+use Rattle.rules.specs.declared.{effect.Effect.Effect, ruling.Answer.Answer, ruling.Ruling.Ruling}
 
 -- where the test holds, its ground; else what follows in the chain of checks. 0 at its end is no ground
 unfoldable pub when : Bool → ℕ → ℕ → ℕ
@@ -18,8 +15,6 @@ when test ground next = cond test ground next
 -- where the test does not hold, its ground; else what follows
 unfoldable pub unless : Bool → ℕ → ℕ → ℕ
 unless test ground next = cond test next ground
-
--- ---- answers and rulings
 
 -- an answer that accepts, with its three numbers
 abbrev pub acceptedWith : ℕ → ℕ → ℕ → Answer
@@ -39,7 +34,7 @@ ruling answer counter effect = record { answer = answer; counter = counter; effe
 
 -- an operation that is refused: the counter stays, and there is no effect
 abbrev pub refused : Ticket → ℕ → Ruling
-refused counter ground = ruling (refusedWith ground) counter (rowOnly noRow blankTrain)
+refused counter ground = ruling (refusedWith ground) counter (rowOnly rowCount blankTrain)
 
 -- refused on a ground; or, where there is none, what the operation does
 unfoldable pub ruled : Ticket → ℕ → Ruling → Ruling

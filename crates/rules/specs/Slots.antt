@@ -2,15 +2,10 @@
 use mathlib.Core.Bool.{Bool, true, false, not, _&&_}
 use mathlib.Core.List.{List}
 use Prim.Native.Nat.{ℕ, zero, suc, _+_, _-_, _*_, _/_}
-use Rattle.trains.specs.Found.{first}
-use Rattle.trains.specs.Kinds.{lastSlot, slotInRange}
-use Rattle.trains.specs.Ranges.{oneTo}
-use Rattle.trains.specs.declared.found.Found.{Found}
-use Rattle.trains.specs.declared.found.Found.the-variants.{Nothing, Index}
-use Rattle.trains.specs.declared.kinds.Slot.{Slot}
-use Rattle.rules.specs.declared.slots.FreeRun.{FreeRun}
-use Rattle.rules.specs.declared.slots.FreeRun.the-variants.{NoRun, From}
+use Rattle.trains.specs.{Found.first, Kinds.lastSlot, Kinds.slotInRange, Ranges.oneTo, declared.kinds.Slot.Slot}
+use Rattle.trains.specs.declared.found.Found.{Found, the-variants.Nothing, the-variants.Index}
 use Rattle.rules.specs.View.{isTaken}
+use Rattle.rules.specs.declared.slots.FreeRun.{FreeRun, the-variants.NoRun, the-variants.From}
 
 -- a request may need six slots
 abbrev pub mostSlots : ℕ
