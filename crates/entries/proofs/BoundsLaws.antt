@@ -11,7 +11,7 @@ use Rattle.numbers.proofs.Logic.{both}
 use Rattle.replay.specs.Demand3.{depth}
 use Rattle.store.specs.Layout.{isSession, entryBytes, sessionBytes}
 use Rattle.trains.specs.Sought.{rowCount}
-use Rattle.trains.specs.declared.kinds.Slot.{Slot}
+use Rattle.kinds.specs.declared.Slot.{Slot}
 use Rattle.entries.specs.Entry.{hasEntry}
 use Rattle.entries.specs.Kept.{canKeep, entryKept, keptIn}
 use Rattle.entries.specs.Undone.{entryBack, undoneIn}

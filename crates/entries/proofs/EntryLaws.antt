@@ -21,7 +21,7 @@ use Rattle.store.proofs.Frames.{Clear, Changes, unchanged, widen, next, number-
 use Rattle.store.proofs.RegisterLaws.{view-stays}
 use Rattle.store.proofs.ViewLaws.{view-row, view-row-past}
 use Rattle.trains.specs.Sought.{rowCount}
-use Rattle.trains.specs.declared.kinds.Slot.{Slot}
+use Rattle.kinds.specs.declared.Slot.{Slot}
 use Rattle.entries.specs.Copied.{rowCopied}
 use Rattle.entries.specs.Entry.{rowNow, saved, takenAt, changeAt, entryAt}
 use Rattle.entries.specs.Kept.{InBounds, runKept, rowKept, entryKept}

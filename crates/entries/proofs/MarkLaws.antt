@@ -13,9 +13,9 @@ use Rattle.store.specs.Layout.{bookAt, registerAt}
 use Rattle.store.specs.Stands.{bookOf}
 use Rattle.store.proofs.BookLaws.{book-set}
 use Rattle.store.proofs.Frames.{Changes, unchanged, widen, next, number-changes}
-use Rattle.trains.specs.Kinds.{lastSlot}
-use Rattle.trains.specs.Ranges.{oneTo}
-use Rattle.trains.proofs.RangeLaws.{one-to}
+use Rattle.kinds.specs.Kinds.{lastSlot}
+use Rattle.kinds.specs.Ranges.{oneTo}
+use Rattle.kinds.proofs.RangeLaws.{one-to}
 use Rattle.entries.specs.Marks.{slotPut, slotsPut}
 
 -- a mark is 0 or 1

@@ -18,7 +18,7 @@ use Rattle.store.specs.Stands.{viewOf}
 use Rattle.store.proofs.Frames.{Changes, unchanged, widen, next, lent-after}
 use Rattle.store.proofs.RegisterLaws.{view-by, view-book, rows-stay, row-changed}
 use Rattle.store.proofs.ViewLaws.{view-rows}
-use Rattle.trains.specs.Kinds.{lastSlot}
+use Rattle.kinds.specs.Kinds.{lastSlot}
 use Rattle.trains.specs.Sought.{rowCount}
 use Rattle.trains.specs.declared.record.Train.{Train}
 use Rattle.entries.specs.Marks.{runMarked}

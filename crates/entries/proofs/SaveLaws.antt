@@ -15,8 +15,8 @@ use Rattle.rules.specs.View.{View}
 use Rattle.rules.specs.declared.effect.Effect.{Effect}
 use Rattle.store.proofs.BookLaws.{length-marked}
 use Rattle.store.proofs.EffectLaws.{marked-stays, marked-run}
-use Rattle.trains.specs.Kinds.{lastSlot}
-use Rattle.trains.specs.Ranges.{oneTo}
+use Rattle.kinds.specs.Kinds.{lastSlot}
+use Rattle.kinds.specs.Ranges.{oneTo}
 use Rattle.trains.specs.Record.{blankTrain}
 use Rattle.trains.specs.declared.record.Train.{Train}
 use Rattle.entries.specs.Entry.{saved, undone, RunHolds}

@@ -20,9 +20,9 @@ use Rattle.store.proofs.Frames.{Clear, Changes, number-changes, lent-after}
 use Rattle.store.proofs.Stretches.{stretch-at}
 use Rattle.store.proofs.TidyLaws.{tidy-same, tidy-stays, tidy-after}
 use Rattle.store.proofs.ViewLaws.{entry-room}
-use Rattle.trains.specs.Kinds.{lastSlot}
+use Rattle.kinds.specs.Kinds.{lastSlot}
 use Rattle.trains.specs.Sought.{rowCount}
-use Rattle.trains.specs.declared.kinds.Slot.{Slot}
+use Rattle.kinds.specs.declared.Slot.{Slot}
 use Rattle.entries.specs.Copied.{rowCopied}
 use Rattle.entries.specs.Kept.{runKept, rowKept, entryKept}
 use Rattle.entries.specs.Marks.{slotsPut, runMarked}

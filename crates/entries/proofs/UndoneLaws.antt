@@ -13,7 +13,7 @@ use Rattle.store.specs.Layout.{bookAt, logAt, rowOffset, keptRowBytes, entryByt
 use Rattle.store.specs.Lent.{Lent}
 use Rattle.store.specs.Stands.{viewOf}
 use Rattle.store.proofs.Frames.{Changes, lent-after}
-use Rattle.trains.specs.Kinds.{lastSlot}
+use Rattle.kinds.specs.Kinds.{lastSlot}
 use Rattle.trains.specs.Sought.{rowCount}
 use Rattle.entries.specs.Entry.{undone, takenAt, changeAt, entryAt}
 use Rattle.entries.specs.Undone.{runBack, rowBack, entryBack}

@@ -12,9 +12,9 @@ use Rattle.rules.specs.View.{View, rowIn, markOf}
 use Rattle.rules.specs.declared.effect.Change.{Change}
 use Rattle.rules.specs.declared.effect.Effect.{Effect}
 use Rattle.store.specs.Layout.{isSession, entryBytes, sessionBytes, slotsAt, markAt, changedAt, alsoAt}
-use Rattle.trains.specs.Kinds.{slotInRange}
+use Rattle.kinds.specs.Kinds.{slotInRange}
 use Rattle.trains.specs.Sought.{rowCount}
-use Rattle.trains.specs.declared.kinds.Slot.{Slot}
+use Rattle.kinds.specs.declared.Slot.{Slot}
 
 -- what an entry keeps: a run of slots and whether it was taken, a row as it was, and a second one where there is one
 abbrev pub Entry : Type 0

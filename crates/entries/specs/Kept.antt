@@ -8,7 +8,7 @@ use Rattle.rules.specs.Effect.{markFor}
 use Rattle.rules.specs.declared.effect.Effect.{Effect}
 use Rattle.store.specs.Layout.{rowOffset, slotsAt, markAt, changedAt, alsoAt}
 use Rattle.trains.specs.Sought.{rowCount}
-use Rattle.trains.specs.declared.kinds.Slot.{Slot}
+use Rattle.kinds.specs.declared.Slot.{Slot}
 use Rattle.entries.specs.Copied.{rowCopied}
 use Rattle.entries.specs.Entry.{hasEntry}
 

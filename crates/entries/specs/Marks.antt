@@ -5,9 +5,9 @@ use Prim.Native.Nat.{ℕ, zero, suc, _+_, _-_}
 use Rattle.numbers.specs.Numbers.{putNumber}
 use Rattle.rules.specs.Effect.{markFor}
 use Rattle.store.specs.Layout.{bookAt}
-use Rattle.trains.specs.Kinds.{lastSlot}
-use Rattle.trains.specs.Ranges.{oneTo}
-use Rattle.trains.specs.declared.kinds.Slot.{Slot}
+use Rattle.kinds.specs.Kinds.{lastSlot}
+use Rattle.kinds.specs.Ranges.{oneTo}
+use Rattle.kinds.specs.declared.Slot.{Slot}
 
 -- a slot marked; one that is none of the book's marks nothing
 unfoldable pub slotPut : List ℕ → ℕ → ℕ → List ℕ

@@ -1,6 +1,6 @@
 // What undoes an effect, kept before the effect is put.
+use kinds::Slot;
 use store::layout;
-use trains::kinds::Slot;
 use trains::sought::ROWS;
 ghost use mathlib.Core.Path.{_≡_};
 ghost use Prim.Native.Nat.{_+_, _≤_};

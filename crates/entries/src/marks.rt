@@ -1,7 +1,7 @@
 // Slots marked in a session's book.
+use kinds::LAST_SLOT;
+use kinds::Slot;
 use store::layout;
-use trains::kinds::LAST_SLOT;
-use trains::kinds::Slot;
 ghost use mathlib.Core.Path.{_≡_};
 ghost use Rattle.entries.specs.Marks.{slotPut, runMarked};
 

@@ -1,7 +1,7 @@
 // An entry undone: its run marked and its rows put back as they were.
 use crate::marks;
+use kinds::Slot;
 use store::layout;
-use trains::kinds::Slot;
 ghost use mathlib.Core.Path.{_≡_};
 ghost use Prim.Native.Nat.{_+_, _≤_};
 ghost use lib.ListN.{length};

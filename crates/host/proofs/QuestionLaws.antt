@@ -6,9 +6,9 @@ use Prim.Native.Nat.{ℕ, _-_}
 use borrow.Author.Tests.{eq-eqb}
 use lib.Dec.{ltb}
 use Rattle.numbers.specs.Numbers.{oneIf}
-use Rattle.trains.specs.declared.kinds.Loco.{Loco}
-use Rattle.trains.specs.declared.kinds.Slot.{Slot}
-use Rattle.trains.specs.declared.kinds.Ticket.{Ticket}
+use Rattle.kinds.specs.declared.Loco.{Loco}
+use Rattle.kinds.specs.declared.Slot.{Slot}
+use Rattle.kinds.specs.declared.Ticket.{Ticket}
 use Rattle.replay.specs.Demand3.{Call, op, back}
 use Rattle.rules.specs.Deeds.{endAsked}
 use Rattle.rules.specs.Named.{namedIn}

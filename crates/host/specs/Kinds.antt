@@ -1,7 +1,7 @@
 -- The numbers of C as the locos and tickets that they stand for.
 use Prim.Native.Nat.{ℕ}
-use Rattle.trains.specs.declared.kinds.Loco.{Loco}
-use Rattle.trains.specs.declared.kinds.Ticket.{Ticket}
+use Rattle.kinds.specs.declared.Loco.{Loco}
+use Rattle.kinds.specs.declared.Ticket.{Ticket}
 
 -- a loco number
 abbrev pub loco : ℕ → Loco

@@ -1,10 +1,10 @@
 // The operations on a lent session, under their names in C. `number` is a loco's number, and `under` the ticket that it was granted.
+use kinds::Loco;
+use kinds::Ticket;
 use rules::deeds::Deed;
 use rules::ruling::Answer;
 use session::operations;
 use store::layout;
-use trains::kinds::Loco;
-use trains::kinds::Ticket;
 ghost use mathlib.Core.Path.{_≡_};
 ghost use Rattle.store.specs.Layout.{sessionBytes};
 ghost use Rattle.rules.specs.Deeds.{meant, flags, position, authority, danger, clear};

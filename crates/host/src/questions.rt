@@ -1,13 +1,13 @@
 // The questions that only read a lent session, under their names in C. Each refuses bytes of another length.
 use crate::told;
 use crate::told::TrainAnswer;
+use kinds::Loco;
+use kinds::Slot;
+use kinds::Ticket;
 use rules::refusals;
 use rules::ruling::Answer;
 use session::questions;
 use store::layout;
-use trains::kinds::Loco;
-use trains::kinds::Slot;
-use trains::kinds::Ticket;
 ghost use mathlib.Core.Path.{_≡_};
 ghost use Rattle.numbers.specs.Numbers.{oneIf};
 ghost use Rattle.rules.specs.Slots.{slotOf};

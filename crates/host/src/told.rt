@@ -1,7 +1,7 @@
 // A train record as numbers. Where there is no position, authority, signal or limit, the number is that of none.
-use trains::ranges;
+use kinds::ranges;
+use kinds::ranges::Location;
 use trains::record::Limit;
-use trains::record::Location;
 use trains::record::Order;
 use trains::record::Position;
 use trains::record::Train;

@@ -7,10 +7,10 @@ use Prim.Native.Nat.{ℕ, suc, _+_, _-_, _≤_, _<_}
 use native.Mathlib.Numerals.{add-one}
 use native.Mathlib.Omega.{arith}
 use borrow.Author.Tests.{le-leb, lt-leb}
-use Rattle.trains.specs.Found.{first}
-use Rattle.trains.specs.Kinds.{lastSlot}
-use Rattle.trains.specs.Ranges.{oneTo}
-use Rattle.trains.proofs.FoundLaws.{first-hit, first-miss, first-end}
+use Rattle.kinds.specs.Found.{first}
+use Rattle.kinds.specs.Kinds.{lastSlot}
+use Rattle.kinds.specs.Ranges.{oneTo}
+use Rattle.kinds.proofs.FoundLaws.{first-hit, first-miss, first-end}
 use Rattle.rules.specs.View.{isTaken}
 use Rattle.rules.specs.declared.slots.FreeRun.the-variants.{NoRun, From}
 use Rattle.rules.specs.Slots.{slotOf, isFree, isRun, runFrom, lowestRun}

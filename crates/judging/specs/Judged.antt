@@ -2,8 +2,8 @@
 use mathlib.Core.List.{List}
 use mathlib.Core.Path.{_≡_}
 use Prim.Native.Nat.{ℕ}
-use Rattle.trains.specs.declared.kinds.Loco.{Loco}
-use Rattle.trains.specs.declared.kinds.Ticket.{Ticket}
+use Rattle.kinds.specs.declared.Loco.{Loco}
+use Rattle.kinds.specs.declared.Ticket.{Ticket}
 use Rattle.rules.specs.Deeds.{endAsked}
 use Rattle.rules.specs.Named.{namedIn}
 use Rattle.rules.specs.Registering.{ticketFor}

@@ -2,6 +2,10 @@
 mod named;
 mod slots;
 
+use kinds::LAST_TICKET;
+use kinds::Loco;
+use kinds::Ticket;
+use kinds::found::Found;
 use rules::deeds;
 use rules::deeds::Deed;
 use rules::raising;
@@ -15,10 +19,6 @@ use rules::slots::FreeRun;
 use rules::slots::is_request;
 use rules::slots::slots_for;
 use store::view;
-use trains::found::Found;
-use trains::kinds::LAST_TICKET;
-use trains::kinds::Loco;
-use trains::kinds::Ticket;
 ghost use mathlib.Core.Path.{_≡_};
 ghost use Rattle.rules.specs.Deeds.{meant};
 ghost use Rattle.rules.specs.Rules.{Op};

@@ -1,9 +1,9 @@
 // The train that a loco and a ticket name together, in the lent bytes.
+use kinds::Loco;
+use kinds::Ticket;
+use kinds::found::Found;
 use rules::named::Named;
 use store::view;
-use trains::found::Found;
-use trains::kinds::Loco;
-use trains::kinds::Ticket;
 ghost use mathlib.Core.Path.{_≡_};
 ghost use Rattle.rules.specs.Named.{namedIn};
 ghost use Rattle.store.specs.Stands.{viewOf};

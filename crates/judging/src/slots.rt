@@ -1,8 +1,7 @@
 // The search of the slot book for a run of free slots.
+use kinds::Slot;
 use rules::slots::FreeRun;
 use store::view;
-use trains::kinds;
-use trains::kinds::Slot;
 ghost use mathlib.Core.Path.{_≡_};
 ghost use Rattle.rules.specs.Slots.{slotOf, isFree, lowestRun};
 ghost use Rattle.store.specs.Stands.{bookOf};

@@ -19,7 +19,7 @@ use Rattle.store.specs.Stands.{viewOf, counterOf, keptOf, headOf}
 use Rattle.store.proofs.Frames.{Changes, lent-after}
 use Rattle.store.proofs.RegisterLaws.{view-stays}
 use Rattle.store.proofs.ViewLaws.{head-in, kept-in, entry-room}
-use Rattle.trains.specs.Kinds.{lastSlot}
+use Rattle.kinds.specs.Kinds.{lastSlot}
 use Rattle.trains.specs.Sought.{rowCount}
 use Rattle.entries.specs.Entry.{Entry, undone}
 use Rattle.entries.specs.Undone.{entryBack}

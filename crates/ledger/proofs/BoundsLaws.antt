@@ -10,8 +10,8 @@ use Rattle.rules.specs.declared.effect.Effect.{Effect}
 use Rattle.replay.specs.Demand3.{depth}
 use Rattle.store.specs.Layout.{isSession, entryBytes, entryOffset, sessionBytes}
 use Rattle.store.proofs.ViewLaws.{entry-room}
-use Rattle.trains.specs.declared.kinds.Slot.{Slot}
-use Rattle.trains.specs.declared.kinds.Ticket.{Ticket}
+use Rattle.kinds.specs.declared.Slot.{Slot}
+use Rattle.kinds.specs.declared.Ticket.{Ticket}
 use Rattle.entries.specs.Entry.{hasEntry}
 use Rattle.entries.specs.Kept.{InBounds, inBounds}
 use Rattle.ledger.specs.Back.{steppedBy, steppedIn}

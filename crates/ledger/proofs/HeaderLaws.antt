@@ -10,7 +10,7 @@ use Rattle.replay.specs.Demand3.{depth}
 use Rattle.store.specs.Layout.{wordBytes, counterAt, keptAt, headAt, bookAt}
 use Rattle.store.specs.Stands.{counterOf}
 use Rattle.store.proofs.Frames.{Changes}
-use Rattle.trains.specs.declared.kinds.Ticket.{Ticket}
+use Rattle.kinds.specs.declared.Ticket.{Ticket}
 use Rattle.entries.proofs.ThreeLaws.{threePut, three-changes, first-back, second-back, third-back}
 use Rattle.ledger.specs.Log.{headed}
 

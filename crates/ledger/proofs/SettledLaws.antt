@@ -25,9 +25,9 @@ use Rattle.store.specs.Stands.{viewOf, counterOf, keptOf, headOf}
 use Rattle.store.proofs.Frames.{Changes, number-stays, row-changes, lent-after}
 use Rattle.store.proofs.RegisterLaws.{view-stays}
 use Rattle.store.proofs.ViewLaws.{head-in, kept-in, entry-room}
-use Rattle.trains.specs.Kinds.{lastSlot}
+use Rattle.kinds.specs.Kinds.{lastSlot}
 use Rattle.trains.specs.Sought.{rowCount}
-use Rattle.trains.specs.declared.kinds.Ticket.{Ticket}
+use Rattle.kinds.specs.declared.Ticket.{Ticket}
 use Rattle.entries.specs.Entry.{saved}
 use Rattle.entries.specs.Kept.{InBounds, entryKept}
 use Rattle.entries.specs.Marks.{runMarked}

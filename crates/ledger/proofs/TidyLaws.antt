@@ -18,7 +18,7 @@ use Rattle.store.proofs.Frames.{row-changes, lent-after}
 use Rattle.store.proofs.TidyLaws.{tidy-put, tidy-after}
 use Rattle.store.proofs.ViewLaws.{head-in}
 use Rattle.trains.specs.Sought.{rowCount}
-use Rattle.trains.specs.declared.kinds.Ticket.{Ticket}
+use Rattle.kinds.specs.declared.Ticket.{Ticket}
 use Rattle.entries.proofs.TidyLaws.{Neat, run-neat, row-neat, entry-neat, back-neat}
 use Rattle.ledger.specs.Back.{stepped, steppedBy}
 use Rattle.ledger.specs.Log.{headed}

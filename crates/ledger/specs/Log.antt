@@ -6,7 +6,7 @@ use Rattle.replay.specs.Demand3.{depth}
 use Rattle.replay.specs.Ring.{readBack}
 use Rattle.store.specs.Layout.{wordBytes, counterAt, keptAt, headAt, entryOffset}
 use Rattle.store.specs.Stands.{keptOf, headOf}
-use Rattle.trains.specs.declared.kinds.Ticket.{Ticket}
+use Rattle.kinds.specs.declared.Ticket.{Ticket}
 use Rattle.entries.specs.Entry.{Entry, entryAt}
 
 -- the entry in a notch of the ring

@@ -12,8 +12,8 @@ use Rattle.rules.specs.declared.effect.Effect.{Effect}
 use Rattle.store.specs.Layout.{isSession, rowOffset, entryOffset}
 use Rattle.store.specs.Stands.{keptOf, headOf}
 use Rattle.trains.specs.Sought.{rowCount}
-use Rattle.trains.specs.declared.kinds.Slot.{Slot}
-use Rattle.trains.specs.declared.kinds.Ticket.{Ticket}
+use Rattle.kinds.specs.declared.Slot.{Slot}
+use Rattle.kinds.specs.declared.Ticket.{Ticket}
 use Rattle.entries.specs.Kept.{canKeep, inBounds, entryKept}
 use Rattle.entries.specs.Marks.{runMarked}
 use Rattle.ledger.specs.Log.{headed}

@@ -3,8 +3,8 @@
 pub mod back;
 pub mod settled;
 
+use kinds::Ticket;
 use store::layout;
-use trains::kinds::Ticket;
 ghost use mathlib.Core.Path.{_≡_};
 ghost use Prim.Native.Nat.{_^_, _<_};
 ghost use Rattle.replay.specs.Demand3.{depth};

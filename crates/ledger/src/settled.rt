@@ -1,13 +1,13 @@
 // An effect taken into the bytes: what undoes it is pushed on the log first, then its slots are marked and its rows put.
 use entries::kept;
 use entries::marks;
+use kinds::Slot;
+use kinds::Ticket;
 use rows::row;
 use rules::effect::Change;
 use rules::effect::Effect;
 use store::layout;
 use store::view;
-use trains::kinds::Slot;
-use trains::kinds::Ticket;
 use trains::sought::ROWS;
 ghost use mathlib.Core.Path.{_≡_};
 ghost use Rattle.ledger.specs.Settled.{canPush, pushedIn, changePut, settledIn};

@@ -8,9 +8,9 @@ use lib.ListN.{length, set, length-set}
 use lib.Seq.{set-out}
 use Rattle.trains.specs.Record.{blankTrain, freshTrain}
 use Rattle.trains.specs.Sought.{rowCount}
-use Rattle.trains.specs.declared.kinds.Loco.{Loco}
-use Rattle.trains.specs.declared.kinds.Slot.{Slot}
-use Rattle.trains.specs.declared.kinds.Ticket.{Ticket}
+use Rattle.kinds.specs.declared.Loco.{Loco}
+use Rattle.kinds.specs.declared.Slot.{Slot}
+use Rattle.kinds.specs.declared.Ticket.{Ticket}
 use Rattle.trains.specs.declared.record.Train.{Train}
 use Rattle.rules.specs.Deeds.{Deed, done}
 use Rattle.rules.specs.Effect.{markFor, marked, rowAndRun, applied}

@@ -11,8 +11,8 @@ use Rattle.sos.specs.declared.shares.Share.{Share}
 use Rattle.sos.specs.declared.shares.Share.the-variants.{Nothing, NoPosition, Order}
 use Rattle.trains.specs.Changes.{withMode, withPosition, withAuthority, withDanger}
 use Rattle.trains.specs.Orders.{hasOrder, orderCleared}
-use Rattle.trains.specs.Ranges.{isPosition, isNoneOrLocation, locationFrom}
-use Rattle.trains.specs.declared.kinds.Ticket.{Ticket}
+use Rattle.kinds.specs.Ranges.{isPosition, isNoneOrLocation, locationFrom}
+use Rattle.kinds.specs.declared.Ticket.{Ticket}
 use Rattle.trains.specs.declared.record.Train.{Train}
 use Rattle.trains.proofs.ChangeLaws.{SameTrain, same-train}
 use Rattle.rules.specs.Deeds.{Deed, flags, position, authority, danger, clear, changedWith, changedIf, stepTaken, modeStepped, done}

@@ -7,20 +7,20 @@ use native.Mathlib.Nat.{le-div-iff-mul-le, div-lt-iff-lt-mul, one-mul, eq-or-lt-
 use native.Mathlib.Omega.{arith}
 use mathlib.Core.Logic.{⊎-elim}
 use borrow.Author.Tests.{ltb-true, eqb-true, eqb-false, not-true, not-false}
-use Rattle.trains.specs.Found.{first, isFound}
-use Rattle.trains.specs.Kinds.{lastLoco, lastSlot, lastTicket, slotInRange, sameLoco, sameTicket, ticketInRange}
+use Rattle.kinds.specs.Found.{first, isFound}
+use Rattle.kinds.specs.Kinds.{lastLoco, lastSlot, lastTicket, slotInRange, sameLoco, sameTicket, ticketInRange}
 use Rattle.trains.specs.Record.{isEmpty}
 use Rattle.trains.specs.Sought.{rowCount, holdsLoco, isSought}
-use Rattle.trains.specs.declared.found.Found.{Found}
-use Rattle.trains.specs.declared.found.Found.the-variants.{Nothing, Index}
-use Rattle.trains.specs.declared.kinds.Loco.{Loco}
-use Rattle.trains.specs.declared.kinds.Slot.{Slot}
-use Rattle.trains.specs.declared.kinds.Ticket.{Ticket}
+use Rattle.kinds.specs.declared.found.Found.{Found}
+use Rattle.kinds.specs.declared.found.Found.the-variants.{Nothing, Index}
+use Rattle.kinds.specs.declared.Loco.{Loco}
+use Rattle.kinds.specs.declared.Slot.{Slot}
+use Rattle.kinds.specs.declared.Ticket.{Ticket}
 use Rattle.trains.specs.declared.record.Train.{Train}
 use Rattle.trains.specs.declared.sought.Sought.{Sought}
 use Rattle.trains.specs.declared.sought.Sought.the-variants.{Pair, Number, Empty}
-use Rattle.trains.proofs.FoundLaws.{Before, first-below, first-true, first-before}
-use Rattle.trains.proofs.RangeLaws.{one-to}
+use Rattle.kinds.proofs.FoundLaws.{Before, first-below, first-true, first-before}
+use Rattle.kinds.proofs.RangeLaws.{one-to}
 use Rattle.rules.specs.Named.{inRow, namedIn, nameGround}
 use Rattle.rules.specs.Raising.{sosGround}
 use Rattle.rules.specs.Registering.{requestGround, rowOfFound}

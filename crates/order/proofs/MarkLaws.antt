@@ -9,9 +9,9 @@ use native.Mathlib.Omega.{arith}
 use lib.ListN.{length, getD, set, length-set}
 use lib.Seq.{getD-set-same, getD-set-other}
 use borrow.Author.Tests.{le-leb}
-use Rattle.trains.specs.Kinds.{lastSlot}
-use Rattle.trains.specs.Ranges.{oneTo}
-use Rattle.trains.proofs.RangeLaws.{one-to}
+use Rattle.kinds.specs.Kinds.{lastSlot}
+use Rattle.kinds.specs.Ranges.{oneTo}
+use Rattle.kinds.proofs.RangeLaws.{one-to}
 use Rattle.rules.specs.Effect.{slotMarked, marked}
 use Rattle.rules.specs.Slots.{slotOf}
 use Rattle.rules.specs.View.{markOf}

@@ -10,15 +10,15 @@ use lib.Dec.{eqb}
 use lib.ListN.{length, getD, replicate, length-replicate, getD-replicate, List·getD-eq-default}
 use lib.Seq.{getD-set-same}
 use borrow.Author.Tests.{eqb-true, eqb-false, eq-eqb, ne-eqb, not-true}
-use Rattle.trains.specs.Kinds.{lastLoco, lastTicket, lastSlot, slotInRange, sameLoco}
+use Rattle.kinds.specs.Kinds.{lastLoco, lastTicket, lastSlot, slotInRange, sameLoco}
 use Rattle.trains.specs.Record.{noOrder, orderAt, blankTrain, freshTrain, isEmpty}
 use Rattle.trains.specs.Sought.{rowCount, holdsLoco}
-use Rattle.trains.specs.declared.kinds.Loco.{Loco}
-use Rattle.trains.specs.declared.kinds.Slot.{Slot}
-use Rattle.trains.specs.declared.kinds.Ticket.{Ticket}
+use Rattle.kinds.specs.declared.Loco.{Loco}
+use Rattle.kinds.specs.declared.Slot.{Slot}
+use Rattle.kinds.specs.declared.Ticket.{Ticket}
 use Rattle.trains.specs.declared.record.Train.{Train}
 use Rattle.trains.proofs.ChangeLaws.{SameTrain}
-use Rattle.trains.proofs.RangeLaws.{one-to}
+use Rattle.kinds.proofs.RangeLaws.{one-to}
 use Rattle.rules.specs.Deeds.{done}
 use Rattle.rules.specs.Effect.{marked, applied}
 use Rattle.rules.specs.Raising.{cellFor, shareFor1, shareFor2, shareTaken}

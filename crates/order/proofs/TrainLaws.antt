@@ -15,24 +15,24 @@ use Rattle.sos.specs.Shares.{ownFront, behind, shareOfL1, shareBehind}
 use Rattle.sos.specs.declared.shares.Share.{Share}
 use Rattle.sos.specs.declared.shares.Share.the-variants.{Nothing as NoShare, NoPosition, Order as Ordered}
 use Rattle.trains.specs.Changes.{changed}
-use Rattle.trains.specs.Kinds.{sameTicket}
+use Rattle.kinds.specs.Kinds.{sameTicket}
 use Rattle.trains.specs.Orders.{standsUnder, placeUnder, orderPlace, room, setAt, orderPut, orderGone}
-use Rattle.trains.specs.Ranges.{none, lastLocation, isLocation, isNoneOrLocation, locationFrom}
+use Rattle.kinds.specs.Ranges.{none, lastLocation, isLocation, isNoneOrLocation, locationFrom}
 use Rattle.trains.specs.Record.{noTicket, noOrder, orderCount, orderAt}
-use Rattle.trains.specs.declared.found.Found.{Found}
-use Rattle.trains.specs.declared.found.Found.the-variants.{Nothing, Index}
-use Rattle.trains.specs.declared.kinds.Ticket.{Ticket}
+use Rattle.kinds.specs.declared.found.Found.{Found}
+use Rattle.kinds.specs.declared.found.Found.the-variants.{Nothing, Index}
+use Rattle.kinds.specs.declared.Ticket.{Ticket}
 use Rattle.trains.specs.declared.record.Limit.{Limit}
 use Rattle.trains.specs.declared.record.Limit.the-variants.{Bare}
-use Rattle.trains.specs.declared.record.Location.the-variants.{Nowhere, At}
+use Rattle.kinds.specs.declared.ranges.Location.the-variants.{Nowhere, At}
 use Rattle.trains.specs.declared.record.Order.{Order}
 use Rattle.trains.specs.declared.record.Position.{Position}
 use Rattle.trains.specs.declared.record.Position.the-variants.{Unknown, Between}
 use Rattle.trains.specs.declared.record.Track.{Track}
 use Rattle.trains.specs.declared.record.Train.{Train}
-use Rattle.trains.proofs.FoundLaws.{first-true, first-before}
+use Rattle.kinds.proofs.FoundLaws.{first-true, first-before}
 use Rattle.trains.proofs.OrderLaws.{order-below, room-below, same-ticket-replaces}
-use Rattle.trains.proofs.RangeLaws.{position-ends}
+use Rattle.kinds.proofs.RangeLaws.{position-ends}
 use Rattle.rules.specs.Deeds.{Deed, done}
 use Rattle.rules.specs.Raising.{shareTaken}
 use Rattle.order.specs.InOrder.{LocationFits, PositionFits, LimitFits, leftFits, TicketFits, IsOrder, ShareOther, OrdersFit, TrainFits}

@@ -6,15 +6,15 @@ use Prim.Native.Nat.{ℕ, _+_, _≤_}
 use lib.Dec.{eqb}
 use lib.ListN.{length, getD, replicate}
 use Rattle.transitions.specs.Names.{SB, FS, OV, OS, PT, IS}
-use Rattle.trains.specs.Kinds.{lastLoco, lastTicket, lastSlot, sameLoco, sameTicket}
-use Rattle.trains.specs.Ranges.{lastLocation}
+use Rattle.kinds.specs.Kinds.{lastLoco, lastTicket, lastSlot, sameLoco, sameTicket}
+use Rattle.kinds.specs.Ranges.{lastLocation}
 use Rattle.trains.specs.Record.{noTicket, noOrder, orderCount, orderAt, blankTrain, isEmpty}
 use Rattle.trains.specs.Sought.{rowCount}
-use Rattle.trains.specs.declared.kinds.Ticket.{Ticket}
+use Rattle.kinds.specs.declared.Ticket.{Ticket}
 use Rattle.trains.specs.declared.record.Limit.{Limit}
 use Rattle.trains.specs.declared.record.Limit.the-variants.{Bare, To}
-use Rattle.trains.specs.declared.record.Location.{Location}
-use Rattle.trains.specs.declared.record.Location.the-variants.{Nowhere, At}
+use Rattle.kinds.specs.declared.ranges.Location.{Location}
+use Rattle.kinds.specs.declared.ranges.Location.the-variants.{Nowhere, At}
 use Rattle.trains.specs.declared.record.Order.{Order}
 use Rattle.trains.specs.declared.record.Position.{Position}
 use Rattle.trains.specs.declared.record.Position.the-variants.{Unknown, Between}

@@ -2,10 +2,10 @@
 use mathlib.Core.Path.{_≡_}
 use mathlib.Core.Bool.{true}
 use Prim.Native.Nat.{ℕ}
-use Rattle.trains.specs.Kinds.{sameLoco, sameTicket}
+use Rattle.kinds.specs.Kinds.{sameLoco, sameTicket}
 use Rattle.trains.specs.Record.{blankTrain}
-use Rattle.trains.specs.declared.kinds.Loco.{Loco}
-use Rattle.trains.specs.declared.kinds.Ticket.{Ticket}
+use Rattle.kinds.specs.declared.Loco.{Loco}
+use Rattle.kinds.specs.declared.Ticket.{Ticket}
 use Rattle.trains.specs.declared.record.Train.{Train}
 use Rattle.rules.specs.Slots.{slotOf}
 use Rattle.rules.specs.View.{View, rowIn, markOf}

@@ -11,8 +11,8 @@ use Rattle.gates.specs.Gates.{gateWidths, gateRules, gateRefusal, rulesRefusal}
 use Rattle.gate_reading.specs.Reading.{gatesOf, bodyRefusal, readRefusal, readAnswer, readInto}
 use Rattle.transitions.specs.Table.{table as transitions}
 use Rattle.modes.specs.Next.{choose, refuses, nextStep}
-use Rattle.trains.specs.Found.{first, isFound, orElse as orElseFound}
-use Rattle.trains.specs.Ranges.{oneTo, isPosition, isNoneOrLocation, locationFrom}
+use Rattle.kinds.specs.Found.{first, isFound, orElse as orElseFound}
+use Rattle.kinds.specs.Ranges.{oneTo, isPosition, isNoneOrLocation, locationFrom}
 use Rattle.trains.specs.Orders.{standsUnder, placeUnder, room, setAt}
 use Rattle.trains.specs.Changes.{leftFor}
 use Rattle.trains.specs.Authority.{nearer, nearest, limitStop, orderStop, dangerStop, orderStops, endWith}

@@ -6,8 +6,8 @@ use Prim.Native.Nat.{ℕ}
 use native.Mathlib.Decide.{ℕ-discrete}
 use borrow.Author.Tests.{eq-eqb, ne-eqb}
 use lib.ListN.{length}
-use Rattle.trains.specs.declared.kinds.Loco.{Loco}
-use Rattle.trains.specs.declared.kinds.Ticket.{Ticket}
+use Rattle.kinds.specs.declared.Loco.{Loco}
+use Rattle.kinds.specs.declared.Ticket.{Ticket}
 use Rattle.rules.specs.Deeds.{endAsked}
 use Rattle.rules.specs.Effect.{applied}
 use Rattle.rules.specs.Named.{namedIn}

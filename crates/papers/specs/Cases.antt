@@ -9,8 +9,8 @@ use Rattle.gates.specs.declared.GatesAnswer.{GatesAnswer}
 use Rattle.modes.specs.Flags.{flagCount}
 use Rattle.modes.specs.Next.{nextStep}
 use Rattle.modes.specs.declared.Step.{Step}
-use Rattle.trains.specs.declared.kinds.Loco.{Loco}
-use Rattle.trains.specs.declared.kinds.Ticket.{Ticket}
+use Rattle.kinds.specs.declared.Loco.{Loco}
+use Rattle.kinds.specs.declared.Ticket.{Ticket}
 use Rattle.rules.specs.declared.ruling.Answer.{Answer}
 use Rattle.rules.specs.Rules.{Op, request}
 use Rattle.session.specs.Answers.{startAfter, answerTo, bytesAfter, endAnswerTo}

@@ -10,9 +10,9 @@ use Rattle.modes.specs.Next.{nextStep, choose, refuses, refused as stepRefused,
 use Rattle.modes.specs.declared.Step.{Step}
 use Rattle.transitions.specs.Table.{Transition}
 use Rattle.trains.specs.Authority.{endOf}
-use Rattle.trains.specs.declared.kinds.Ticket.{Ticket}
-use Rattle.trains.specs.declared.record.Location.{Location}
-use Rattle.trains.specs.declared.record.Location.the-variants.{Nowhere, At}
+use Rattle.kinds.specs.declared.Ticket.{Ticket}
+use Rattle.kinds.specs.declared.ranges.Location.{Location}
+use Rattle.kinds.specs.declared.ranges.Location.the-variants.{Nowhere, At}
 use Rattle.trains.specs.declared.record.Train.{Train}
 use Rattle.replay.specs.Demand3.{Call, op, back}
 use Rattle.rules.specs.Deeds.{Deed, flags, position, authority, danger, clear, endAnswer, changedWith, changedIf, stepTaken, modeStepped, done}

@@ -6,8 +6,8 @@ use Prim.Native.Nat.{ℕ}
 use lib.Dec.{eqb, ltb}
 use lib.ListN.{length, drop}
 use Rattle.numbers.specs.Numbers.{numberAt}
-use Rattle.trains.specs.declared.kinds.Loco.{Loco}
-use Rattle.trains.specs.declared.kinds.Ticket.{Ticket}
+use Rattle.kinds.specs.declared.Loco.{Loco}
+use Rattle.kinds.specs.declared.Ticket.{Ticket}
 use Rattle.replay.specs.Demand3.{Call, op, back}
 use Rattle.rules.specs.Deeds.{Deed, flags, position, authority, danger, clear}
 use Rattle.rules.specs.Rules.{Op, request, release, on, sos}

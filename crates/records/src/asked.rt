@@ -1,7 +1,7 @@
 // The call that a record asks for. Of a record's numbers, here alone one becomes a loco or a ticket.
+use kinds::Loco;
+use kinds::Ticket;
 use rules::deeds::Deed;
-use trains::kinds::Loco;
-use trains::kinds::Ticket;
 ghost use mathlib.Core.Path.{_≡_};
 ghost use Prim.Native.Nat.{_+_};
 ghost use Rattle.records.specs.Asked.{meantBy};

@@ -8,19 +8,19 @@ use native.Mathlib.Omega.{arith}
 use borrow.Author.Tests.{eqb-true, eqb-false, ne-eqb, not-true}
 use lib.Dec.{eqb}
 use Rattle.numbers.specs.Numbers.{numberAt}
-use Rattle.trains.specs.declared.found.Found.{Found}
-use Rattle.trains.specs.declared.found.Found.the-variants.{Nothing, Index}
-use Rattle.trains.specs.declared.kinds.Loco.{Loco}
-use Rattle.trains.specs.declared.kinds.Ticket.{Ticket}
+use Rattle.kinds.specs.declared.found.Found.{Found}
+use Rattle.kinds.specs.declared.found.Found.the-variants.{Nothing, Index}
+use Rattle.kinds.specs.declared.Loco.{Loco}
+use Rattle.kinds.specs.declared.Ticket.{Ticket}
 use Rattle.trains.specs.declared.record.Train.{Train}
-use Rattle.trains.specs.Kinds.{lastTicket, noLoco, sameLoco, sameTicket, ticketInRange}
+use Rattle.kinds.specs.Kinds.{lastTicket, noLoco, sameLoco, sameTicket, ticketInRange}
 use Rattle.trains.specs.Record.{noTicket}
-use Rattle.trains.proofs.FoundLaws.{Before, first-below, first-true, first-before, first-none}
-use Rattle.trains.proofs.RangeLaws.{one-to}
+use Rattle.kinds.proofs.FoundLaws.{Before, first-below, first-true, first-before, first-none}
+use Rattle.kinds.proofs.RangeLaws.{one-to}
 use Rattle.trains.specs.declared.sought.Sought.{Sought}
 use Rattle.trains.specs.declared.sought.Sought.the-variants.{Pair, Number, Empty}
 use Rattle.trains.specs.Sought.{rowCount, holdsLoco, isSought}
-use Rattle.trains.specs.Found.{first}
+use Rattle.kinds.specs.Found.{first}
 use Rattle.rows.specs.Row.{rowBytes}
 use Rattle.rows.specs.Register.{rowOf, rowHolds, searched, soughtAt, foundIn}
 use Rattle.rows.proofs.Bytewise.{at-bit}

@@ -2,12 +2,12 @@
 use mathlib.Core.Bool.{Bool, _&&_, _||_}
 use mathlib.Core.List.{List}
 use Prim.Native.Nat.{ℕ, _+_, _*_}
-use Rattle.trains.specs.declared.found.Found.{Found}
-use Rattle.trains.specs.declared.kinds.Loco.{Loco}
-use Rattle.trains.specs.declared.kinds.Ticket.{Ticket}
+use Rattle.kinds.specs.declared.found.Found.{Found}
+use Rattle.kinds.specs.declared.Loco.{Loco}
+use Rattle.kinds.specs.declared.Ticket.{Ticket}
 use Rattle.trains.specs.declared.record.Train.{Train}
-use Rattle.trains.specs.Found.{first}
-use Rattle.trains.specs.Kinds.{sameLoco, sameTicket}
+use Rattle.kinds.specs.Found.{first}
+use Rattle.kinds.specs.Kinds.{sameLoco, sameTicket}
 use Rattle.trains.specs.Record.{noTicket}
 use Rattle.trains.specs.Sought.{rowCount, isSought}
 use Rattle.trains.specs.declared.sought.Sought.{Sought}

@@ -1,8 +1,8 @@
 // The register: 24 rows, one behind the other, from a byte of the lent bytes on. A search looks at the rows in order.
 use crate::row;
-use trains::found::Found;
-use trains::kinds::Loco;
-use trains::kinds::Ticket;
+use kinds::Loco;
+use kinds::Ticket;
+use kinds::found::Found;
 use trains::sought::ROWS;
 ghost use mathlib.Core.Path.{_≡_};
 ghost use Prim.Native.Nat.{_+_, _*_, _<_};

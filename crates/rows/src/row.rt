@@ -1,10 +1,10 @@
 // The train record as a row of 67 bytes, both ways: its head, its track and its four orders, one behind the other.
-use trains::kinds::Loco;
-use trains::kinds::Slot;
-use trains::kinds::Ticket;
+use kinds::Loco;
+use kinds::Slot;
+use kinds::Ticket;
+use kinds::ranges::Location;
 use trains::orders;
 use trains::record::Limit;
-use trains::record::Location;
 use trains::record::Order;
 use trains::record::Position;
 use trains::record::Track;

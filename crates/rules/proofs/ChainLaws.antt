@@ -5,7 +5,7 @@ use Prim.Native.Nat.{ℕ, zero, suc}
 use native.Mathlib.Omega.{arith}
 use borrow.Author.Tests.{ne-eqb}
 use lib.Dec.{eqb}
-use Rattle.trains.specs.declared.kinds.Ticket.{Ticket}
+use Rattle.kinds.specs.declared.Ticket.{Ticket}
 use Rattle.rules.specs.declared.{effect.Effect.Effect, ruling.Answer.Answer, ruling.Ruling.Ruling}
 use Rattle.rules.specs.Refusals.{badLoco, noLiveTrain}
 use Rattle.rules.specs.Ruling.{when, unless, refusedWith, ruling, refused, ruled}

@@ -5,10 +5,12 @@ use mathlib.Core.List.{List}
 use Prim.Native.Nat.{ℕ}
 use lib.Dec.{eqb}
 use Rattle.modes.specs.{Next.nextStep, declared.Step.Step}
-use Rattle.trains.specs.{Authority.endOf, Orders.hasOrder, Orders.orderCleared, Ranges.isPosition, Ranges.isNoneOrLocation, Ranges.locationFrom}
+use Rattle.kinds.specs.{Ranges.isPosition, Ranges.isNoneOrLocation, Ranges.locationFrom}
+use Rattle.trains.specs.{Authority.endOf, Orders.hasOrder, Orders.orderCleared}
 use Rattle.trains.specs.Changes.{withPosition, withAuthority, withDanger, withMode}
-use Rattle.trains.specs.declared.{kinds.Ticket.Ticket, record.Train.Train}
-use Rattle.trains.specs.declared.record.Location.{Location, the-variants.Nowhere, the-variants.At}
+use Rattle.kinds.specs.declared.{Ticket.Ticket}
+use Rattle.trains.specs.declared.{record.Train.Train}
+use Rattle.kinds.specs.declared.ranges.Location.{Location, the-variants.Nowhere, the-variants.At}
 use Rattle.rules.specs.{Effect.rowOnly, Named.nameGround, Named.nameAnswer, Refusals.badPosition, Refusals.badLocation, Refusals.noSuchOrder}
 use Rattle.rules.specs.{Ruling.acceptedWith, Ruling.refusedWith, Ruling.ruling}
 use Rattle.rules.specs.declared.{deeds.Changed.Changed, named.Named.Named, ruling.Answer.Answer, ruling.Ruling.Ruling}

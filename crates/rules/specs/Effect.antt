@@ -3,8 +3,10 @@ use mathlib.Core.Bool.{Bool, true, false, cond}
 use mathlib.Core.List.{List}
 use Prim.Native.Nat.{ℕ, zero, suc, _-_}
 use lib.ListN.{set}
-use Rattle.trains.specs.{Kinds.lastSlot, Ranges.oneTo, Record.blankTrain, Sought.rowCount}
-use Rattle.trains.specs.declared.{kinds.Slot.Slot, record.Train.Train}
+use Rattle.kinds.specs.{Kinds.lastSlot, Ranges.oneTo}
+use Rattle.trains.specs.{Record.blankTrain, Sought.rowCount}
+use Rattle.kinds.specs.declared.{Slot.Slot}
+use Rattle.trains.specs.declared.{record.Train.Train}
 use Rattle.rules.specs.{View.View}
 use Rattle.rules.specs.declared.{effect.Change.Change, effect.Effect.Effect}
 

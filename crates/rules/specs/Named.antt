@@ -1,9 +1,11 @@
 -- The train that a loco and a ticket name together.
 use mathlib.Core.Bool.{Bool, true, false, cond}
 use Prim.Native.Nat.{ℕ}
-use Rattle.trains.specs.{Kinds.locoInRange, Record.blankTrain, Sought.rowCount}
-use Rattle.trains.specs.declared.{kinds.Loco.Loco, kinds.Ticket.Ticket, sought.Sought.the-variants.Pair}
-use Rattle.trains.specs.declared.found.Found.{Found, the-variants.Nothing, the-variants.Index}
+use Rattle.kinds.specs.{Kinds.locoInRange}
+use Rattle.trains.specs.{Record.blankTrain, Sought.rowCount}
+use Rattle.kinds.specs.declared.{Loco.Loco, Ticket.Ticket}
+use Rattle.trains.specs.declared.{sought.Sought.the-variants.Pair}
+use Rattle.kinds.specs.declared.found.Found.{Found, the-variants.Nothing, the-variants.Index}
 use Rattle.rules.specs.{Refusals.badLoco, Refusals.noLiveTrain, Ruling.refusedWith, Ruling.unless, View.View, View.rowIn, View.findIn}
 use Rattle.rules.specs.declared.{named.Named.Named, ruling.Answer.Answer}
 

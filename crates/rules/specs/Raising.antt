@@ -5,8 +5,10 @@ use lib.Dec.{eqb}
 use Rattle.sos.specs.{Classes.classOf, Shares.shareOfL1, Shares.shareOfL2}
 use Rattle.sos.specs.Grids.{NA, cellOf, measureOf, aspectOf}
 use Rattle.sos.specs.declared.shares.Share.{Share, the-variants.Nothing, the-variants.NoPosition, the-variants.Order}
-use Rattle.trains.specs.{Kinds.locoInRange, Orders.hasPlace, Orders.withOrder, Ranges.isGrid}
-use Rattle.trains.specs.declared.{kinds.Ticket.Ticket, record.Train.Train}
+use Rattle.kinds.specs.{Kinds.locoInRange, Ranges.isGrid}
+use Rattle.trains.specs.{Orders.hasPlace, Orders.withOrder}
+use Rattle.kinds.specs.declared.{Ticket.Ticket}
+use Rattle.trains.specs.declared.{record.Train.Train}
 use Rattle.rules.specs.{Effect.noSlot, Effect.change, Effect.effect, Ruling.acceptedWith, Ruling.ruling, Ruling.when}
 use Rattle.rules.specs.Refusals.{badLoco, noLiveTrain, sameTrain, badGrid, noClass, notApplicable, noPosition, noPlace}
 use Rattle.rules.specs.declared.{named.Named.Named, raising.Side.Side, ruling.Ruling.Ruling}

@@ -1,9 +1,10 @@
 -- Trains come and go: REQUEST and RELEASE.
 use mathlib.Core.Bool.{true, false}
 use Prim.Native.Nat.{ℕ, suc}
-use Rattle.trains.specs.{Found.isFound, Kinds.lastTicket, Kinds.isAbove, Kinds.locoInRange, Record.blankTrain, Record.freshTrain, Sought.rowCount}
-use Rattle.trains.specs.declared.{kinds.Loco.Loco, kinds.Slot.Slot, kinds.Ticket.Ticket}
-use Rattle.trains.specs.declared.found.Found.{Found, the-variants.Nothing, the-variants.Index}
+use Rattle.kinds.specs.{Found.isFound, Kinds.lastTicket, Kinds.isAbove, Kinds.locoInRange}
+use Rattle.trains.specs.{Record.blankTrain, Record.freshTrain, Sought.rowCount}
+use Rattle.kinds.specs.declared.{Loco.Loco, Slot.Slot, Ticket.Ticket}
+use Rattle.kinds.specs.declared.found.Found.{Found, the-variants.Nothing, the-variants.Index}
 use Rattle.trains.specs.declared.sought.Sought.{the-variants.Number, the-variants.Empty}
 use Rattle.rules.specs.{Effect.rowAndRun, View.View, View.findIn}
 use Rattle.rules.specs.Refusals.{badLoco, badBytes, alreadyRegistered, registerFull, noTicketLeft, noFreeRun}

@@ -2,7 +2,7 @@
 -- so a replay that keeps each grant's ticket is the same rule.
 use mathlib.Core.Bool.{Bool, true, false}
 use Prim.Native.Nat.{ℕ}
-use Rattle.trains.specs.declared.{kinds.Loco.Loco, kinds.Ticket.Ticket}
+use Rattle.kinds.specs.declared.{Loco.Loco, Ticket.Ticket}
 use Rattle.rules.specs.{Named.namedIn, Named.nameGround, Raising.sosGround, Raising.raised, Registering.requestGround, Registering.requested}
 use Rattle.rules.specs.{Registering.released, Ruling.ruled, View.View}
 use Rattle.rules.specs.Deeds.{Deed, done, deedGround, deedDone}

@@ -4,7 +4,7 @@ use mathlib.Core.Bool.{Bool, cond}
 use Prim.Native.Nat.{ℕ}
 use lib.Dec.{eqb}
 use Rattle.trains.specs.{Record.blankTrain, Sought.rowCount}
-use Rattle.trains.specs.declared.{kinds.Ticket.Ticket}
+use Rattle.kinds.specs.declared.{Ticket.Ticket}
 use Rattle.rules.specs.{Effect.rowOnly}
 use Rattle.rules.specs.declared.{effect.Effect.Effect, ruling.Answer.Answer, ruling.Ruling.Ruling}
 

@@ -2,8 +2,8 @@
 use mathlib.Core.Bool.{Bool, true, false, not, _&&_}
 use mathlib.Core.List.{List}
 use Prim.Native.Nat.{ℕ, zero, suc, _+_, _-_, _*_, _/_}
-use Rattle.trains.specs.{Found.first, Kinds.lastSlot, Kinds.slotInRange, Ranges.oneTo, declared.kinds.Slot.Slot}
-use Rattle.trains.specs.declared.found.Found.{Found, the-variants.Nothing, the-variants.Index}
+use Rattle.kinds.specs.{Found.first, Kinds.lastSlot, Kinds.slotInRange, Ranges.oneTo, declared.Slot.Slot}
+use Rattle.kinds.specs.declared.found.Found.{Found, the-variants.Nothing, the-variants.Index}
 use Rattle.rules.specs.View.{isTaken}
 use Rattle.rules.specs.declared.slots.FreeRun.{FreeRun, the-variants.NoRun, the-variants.From}
 

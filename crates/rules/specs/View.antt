@@ -4,8 +4,10 @@ use mathlib.Core.List.{List}
 use Prim.Native.Nat.{ℕ, _-_}
 use lib.Dec.{eqb}
 use lib.ListN.{getD}
-use Rattle.trains.specs.{Found.first, Kinds.slotInRange, Record.blankTrain, Sought.rowCount, Sought.isSought}
-use Rattle.trains.specs.declared.{found.Found.Found, kinds.Slot.Slot, record.Train.Train, sought.Sought.Sought}
+use Rattle.kinds.specs.{Found.first, Kinds.slotInRange}
+use Rattle.trains.specs.{Record.blankTrain, Sought.rowCount, Sought.isSought}
+use Rattle.kinds.specs.declared.{found.Found.Found, Slot.Slot}
+use Rattle.trains.specs.declared.{record.Train.Train, sought.Sought.Sought}
 
 -- the 24 rows, and for each of the 44 slots a mark: 0 where it is free
 pub record View : Type 0 where

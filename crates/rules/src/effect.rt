@@ -1,5 +1,5 @@
 // What an accepted operation does: a run of slots marked, one row changed, and for an SOS a second one.
-use trains::kinds::Slot;
+use kinds::Slot;
 use trains::record::Train;
 
 // A row of the register, counted from 0, and what it becomes. `ROWS` is the number of no row: nothing changes.

@@ -1,7 +1,7 @@
 // The train that a loco and a ticket name together.
 use crate::refusals;
 use crate::ruling::Answer;
-use trains::kinds::Loco;
+use kinds::Loco;
 use trains::record::Train;
 use trains::sought::ROWS;
 ghost use mathlib.Core.Path.{_≡_};

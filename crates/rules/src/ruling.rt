@@ -1,8 +1,8 @@
 // What the rules say of an operation: the answer, the ticket counter afterwards, and the effect on the view.
 use crate::effect::Change;
 use crate::effect::Effect;
-use trains::kinds::Slot;
-use trains::kinds::Ticket;
+use kinds::Slot;
+use kinds::Ticket;
 use trains::record::Train;
 use trains::sought::ROWS;
 ghost use mathlib.Core.Bool.{false};

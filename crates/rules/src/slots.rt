@@ -1,5 +1,5 @@
 // How many slots a request needs, and what a search for free ones finds.
-use trains::kinds::Slot;
+use kinds::Slot;
 ghost use mathlib.Core.Path.{_≡_};
 ghost use Rattle.rules.specs.Slots.{isRequest, slotsFor};
 

@@ -12,7 +12,7 @@ use Rattle.numbers.proofs.FieldLaws.{lt-or-le}
 use Rattle.numbers.proofs.NumberLaws.{number-lt}
 use Rattle.replay.specs.Demand3.{depth}
 use Rattle.trains.specs.Sought.{rowCount}
-use Rattle.trains.specs.declared.kinds.Ticket.{Ticket}
+use Rattle.kinds.specs.declared.Ticket.{Ticket}
 use Rattle.rules.specs.Effect.{applied}
 use Rattle.rules.specs.Registering.{ticketFor}
 use Rattle.rules.specs.Rules.{Op, grants, groundOf, doneBy}

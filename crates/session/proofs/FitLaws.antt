@@ -11,15 +11,15 @@ use Rattle.modes.specs.Next.{refuses, nextStep}
 use Rattle.modes.proofs.Laws.{refused-exactly-on-its-grounds, next-is-a-mode}
 use Rattle.trains.specs.Authority.{endOf}
 use Rattle.trains.specs.Changes.{withMode}
-use Rattle.trains.specs.Kinds.{lastLoco, lastTicket, lastSlot}
-use Rattle.trains.specs.Ranges.{none, lastLocation, isLocation, isPosition, isNoneOrLocation, locationFrom}
+use Rattle.kinds.specs.Kinds.{lastLoco, lastTicket, lastSlot}
+use Rattle.kinds.specs.Ranges.{none, lastLocation, isLocation, isPosition, isNoneOrLocation, locationFrom}
 use Rattle.trains.specs.Record.{blankTrain}
 use Rattle.trains.specs.Sought.{rowCount}
-use Rattle.trains.specs.declared.kinds.Loco.{Loco}
-use Rattle.trains.specs.declared.kinds.Ticket.{Ticket}
-use Rattle.trains.specs.declared.record.Location.the-variants.{Nowhere, At}
+use Rattle.kinds.specs.declared.Loco.{Loco}
+use Rattle.kinds.specs.declared.Ticket.{Ticket}
+use Rattle.kinds.specs.declared.ranges.Location.the-variants.{Nowhere, At}
 use Rattle.trains.specs.declared.record.Train.{Train}
-use Rattle.trains.proofs.RangeLaws.{position-ends}
+use Rattle.kinds.proofs.RangeLaws.{position-ends}
 use Rattle.rows.proofs.FitLaws.{Byte, Word, LocationFits, Fits, fits-read, fits-fresh, fits-position, fits-authority, fits-danger, fits-mode, fits-cleared}
 use Rattle.rows.proofs.RowLaws.{row-zeros}
 use Rattle.rules.specs.Deeds.{Deed, flags, position, authority, danger, clear, done, changedIf, changedWith, stepTaken, modeStepped, endAnswer}

@@ -7,7 +7,7 @@ use Rattle.rows.proofs.FitLaws.{Word, PositionFits, LimitFits, Fits, fits-order
 use Rattle.sos.specs.Shares.{ownFront, behind, byMeasure, shareOfL1, shareBehind, shareOfL2}
 use Rattle.sos.specs.declared.shares.Share.{Share}
 use Rattle.sos.specs.declared.shares.Share.the-variants.{Nothing, NoPosition, Order}
-use Rattle.trains.specs.declared.kinds.Ticket.{Ticket}
+use Rattle.kinds.specs.declared.Ticket.{Ticket}
 use Rattle.trains.specs.declared.record.Limit.the-variants.{Bare}
 use Rattle.trains.specs.declared.record.Position.{Position}
 use Rattle.trains.specs.declared.record.Position.the-variants.{Unknown, Between}

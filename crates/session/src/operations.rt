@@ -1,4 +1,6 @@
 // THE OPERATIONS on a lent session. Each judges first and then takes the effect in; a refusal changes no byte.
+use kinds::Loco;
+use kinds::Ticket;
 use ledger::settled;
 use rules::deeds::Deed;
 use rules::refusals;
@@ -6,8 +8,6 @@ use rules::ruling::Answer;
 use rules::ruling::Ruling;
 use store::emptied;
 use store::layout;
-use trains::kinds::Loco;
-use trains::kinds::Ticket;
 ghost use mathlib.Core.Path.{_≡_};
 ghost use Rattle.rules.specs.Deeds.{meant};
 ghost use Rattle.rules.specs.Rules.{Op};

@@ -1,11 +1,11 @@
 // Questions that only read a session: for displays and tests.
+use kinds::Loco;
+use kinds::Slot;
+use kinds::Ticket;
 use rules::refusals;
 use rules::ruling::Answer;
 use store::layout;
 use store::view;
-use trains::kinds::Loco;
-use trains::kinds::Slot;
-use trains::kinds::Ticket;
 use trains::record::Train;
 ghost use mathlib.Core.Path.{_≡_};
 ghost use Rattle.rules.specs.View.{rowIn, isTaken};

@@ -5,7 +5,7 @@ use mathlib.Core.List.{List, [], _∷_}
 use mathlib.Core.Path.{_≡_, refl}
 use lib.Dec.{eqb, leb}
 use lib.ListN.{getD}
-use Rattle.trains.specs.Ranges.{oneTo, isGrid}
+use Rattle.kinds.specs.Ranges.{oneTo, isGrid}
 use Rattle.sos.specs.Grids.{NA, grids, cellOf, classCount, measureOf, aspectOf}
 
 -- every element of a list passes a test

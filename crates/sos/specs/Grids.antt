@@ -3,7 +3,7 @@ use mathlib.Core.List.{List, [], _∷_}
 use mathlib.Core.Bool.{cond, _&&_}
 use Prim.Native.Nat.{ℕ, _+_, _-_, _*_, _/_, _%_}
 use lib.ListN.{getD}
-use Rattle.trains.specs.Ranges.{oneTo, isGrid}
+use Rattle.kinds.specs.Ranges.{oneTo, isGrid}
 
 -- there are nine row classes
 abbrev pub classCount : ℕ

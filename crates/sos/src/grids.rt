@@ -4,7 +4,7 @@ ghost use Prim.Native.Nat.{_<_};
 ghost use mathlib.Core.List.{[]};
 ghost use lib.ListN.{getD};
 ghost use Rattle.sos.specs.Grids.{grids, cellOf, measureOf, aspectOf};
-use trains::ranges;
+use kinds::ranges;
 
 const CLASSES: u32 = 9;
 

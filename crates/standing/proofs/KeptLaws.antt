@@ -16,7 +16,7 @@ use Rattle.replay.specs.Demand3.{opAnswer, backAnswer as backWords}
 use Rattle.replay.specs.Machine.{acted, undoAll, undone as wound, step}
 use Rattle.replay.specs.Kept.{Steps, Kept}
 use Rattle.replay.proofs.Rings.{length-readBack}
-use Rattle.trains.specs.declared.kinds.Ticket.{Ticket}
+use Rattle.kinds.specs.declared.Ticket.{Ticket}
 use Rattle.rules.specs.Effect.{applied}
 use Rattle.rules.specs.Refusals.{tooFarBack}
 use Rattle.rules.specs.Registering.{ticketOf, ticketFor}

@@ -8,8 +8,8 @@ use contract.Lifetimes.{Lfts}
 use contract.Monad.{fact}
 use borrow.Fn.World.{World, Pr}
 use denote.Ref.{RefT, now}
-use Rattle.trains.specs.declared.kinds.Loco.{Loco}
-use Rattle.trains.specs.declared.kinds.Ticket.{Ticket}
+use Rattle.kinds.specs.declared.Loco.{Loco}
+use Rattle.kinds.specs.declared.Ticket.{Ticket}
 use Rattle.replay.specs.Demand3.{Call}
 use Rattle.rules.specs.Deeds.{meant}
 use Rattle.rules.specs.Rules.{Op}

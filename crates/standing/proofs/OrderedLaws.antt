@@ -11,7 +11,7 @@ use Rattle.replay.specs.Always.{Lasts}
 use Rattle.replay.specs.Rules.{accept, ticketDue, verdict, counterAfter}
 use Rattle.replay.specs.Demand3.{Call, op, back, History, Starts, Made}
 use Rattle.replay.proofs.Always.{always}
-use Rattle.trains.specs.declared.kinds.Ticket.{Ticket}
+use Rattle.kinds.specs.declared.Ticket.{Ticket}
 use Rattle.rules.specs.Effect.{applied}
 use Rattle.rules.specs.Registering.{ticketOf, ticketFor}
 use Rattle.rules.specs.Rules.{Op, grants, groundOf, doneBy, rule}

@@ -5,9 +5,9 @@ use Prim.Native.Nat.{ℕ, suc, _≤_, _<_}
 use native.Mathlib.Omega.{arith}
 use borrow.Author.Tests.{eqb-true, eq-eqb, ne-eqb}
 use Rattle.replay.specs.Rules.{Lawful, refuse, accept, justBelow, ticketDue, verdict}
-use Rattle.trains.specs.Kinds.{lastSlot, lastTicket}
-use Rattle.trains.specs.declared.kinds.Ticket.{Ticket}
-use Rattle.trains.proofs.RangeLaws.{one-to}
+use Rattle.kinds.specs.Kinds.{lastSlot, lastTicket}
+use Rattle.kinds.specs.declared.Ticket.{Ticket}
+use Rattle.kinds.proofs.RangeLaws.{one-to}
 use Rattle.rules.specs.Effect.{applied}
 use Rattle.rules.specs.Registering.{ticketOf, ticketFor}
 use Rattle.rules.specs.Rules.{Op, grants, groundOf, doneBy, rule}

@@ -12,7 +12,7 @@ use Rattle.replay.specs.Played.{callsOf, asCalls, GrantsStand, Same}
 use Rattle.replay.proofs.Demand.{demand3}
 use Rattle.replay.proofs.Numbered.{tickets-numbered}
 use Rattle.replay.proofs.Played.{played}
-use Rattle.trains.specs.declared.kinds.Ticket.{Ticket}
+use Rattle.kinds.specs.declared.Ticket.{Ticket}
 use Rattle.rules.specs.Registering.{ticketOf, ticketFor}
 use Rattle.order.specs.InOrder.{InOrder, startView}
 use Rattle.order.proofs.OrderLaws.{order-start, order-sound}

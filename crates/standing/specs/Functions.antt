@@ -2,8 +2,8 @@
 -- leaves. That the functions' own contracts say the same is proofs/Links.antt.
 use mathlib.Core.List.{List}
 use Prim.Native.Nat.{ℕ}
-use Rattle.trains.specs.declared.kinds.Loco.{Loco}
-use Rattle.trains.specs.declared.kinds.Ticket.{Ticket}
+use Rattle.kinds.specs.declared.Loco.{Loco}
+use Rattle.kinds.specs.declared.Ticket.{Ticket}
 use Rattle.replay.specs.Demand3.{Call, op, back}
 use Rattle.rules.specs.Deeds.{meant}
 use Rattle.rules.specs.Rules.{Op, request, release, on, sos}

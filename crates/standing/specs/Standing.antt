@@ -6,7 +6,7 @@ use mathlib.Core.List.{List}
 use Prim.Native.Nat.{ℕ}
 use Rattle.replay.specs.Rules.{Rules, Outcome, refuse, accept, justBelow}
 use Rattle.replay.specs.Demand3.{Call, op, back, Session}
-use Rattle.trains.specs.Kinds.{lastTicket}
+use Rattle.kinds.specs.Kinds.{lastTicket}
 use Rattle.rules.specs.Effect.{applied}
 use Rattle.rules.specs.Refusals.{tooFarBack}
 use Rattle.rules.specs.Registering.{ticketOf, ticketFor}

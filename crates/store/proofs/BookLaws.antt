@@ -8,10 +8,10 @@ use native.Mathlib.Omega.{arith}
 use lib.Dec.{eqb}
 use lib.ListN.{length, getD, set, length-set}
 use lib.Seq.{getD-set-same, getD-set-other, ext-getD}
-use Rattle.trains.specs.Kinds.{lastSlot, slotInRange}
-use Rattle.trains.specs.declared.kinds.Slot.{Slot}
-use Rattle.trains.specs.Ranges.{oneTo}
-use Rattle.trains.proofs.RangeLaws.{one-to}
+use Rattle.kinds.specs.Kinds.{lastSlot, slotInRange}
+use Rattle.kinds.specs.declared.Slot.{Slot}
+use Rattle.kinds.specs.Ranges.{oneTo}
+use Rattle.kinds.proofs.RangeLaws.{one-to}
 use Rattle.rules.specs.Effect.{slotMarked, marked}
 use Rattle.store.specs.Layout.{bookAt, registerAt}
 use Rattle.rules.specs.View.{isTaken}

@@ -9,11 +9,11 @@ use lib.Dec.{eqb}
 use lib.ListN.{length, getD, set, length-set}
 use lib.Seq.{getD-set-same, getD-set-other}
 use Rattle.numbers.proofs.FieldLaws.{lt-or-le}
-use Rattle.trains.specs.Kinds.{lastSlot, slotInRange}
-use Rattle.trains.specs.declared.kinds.Slot.{Slot}
-use Rattle.trains.specs.Ranges.{oneTo}
+use Rattle.kinds.specs.Kinds.{lastSlot, slotInRange}
+use Rattle.kinds.specs.declared.Slot.{Slot}
+use Rattle.kinds.specs.Ranges.{oneTo}
 use Rattle.trains.specs.Record.{blankTrain}
-use Rattle.trains.proofs.RangeLaws.{one-to}
+use Rattle.kinds.proofs.RangeLaws.{one-to}
 use Rattle.rules.specs.declared.effect.Effect.{Effect}
 use Rattle.rules.specs.Effect.{markFor, slotMarked, marked, applied}
 use Rattle.rules.specs.View.{View, rowIn, markOf, isTaken}

@@ -13,7 +13,7 @@ use Rattle.numbers.proofs.NumberLaws.{number-past}
 use Rattle.trains.specs.Sought.{rowCount}
 use Rattle.rows.proofs.Bytewise.{field-same, bit-of-byte}
 use Rattle.rows.proofs.RowLaws.{row-zeros}
-use Rattle.trains.specs.Kinds.{lastSlot}
+use Rattle.kinds.specs.Kinds.{lastSlot}
 use Rattle.trains.specs.Record.{blankTrain, noTicket}
 use Rattle.trains.specs.declared.record.Train.{Train}
 use Rattle.store.specs.Emptied.{emptied}

@@ -11,7 +11,7 @@ use Rattle.numbers.proofs.FieldLaws.{lt-or-le}
 use Rattle.rows.specs.Register.{rowOf}
 use Rattle.trains.specs.Sought.{rowCount}
 use Rattle.rows.specs.Row.{rowBytes}
-use Rattle.trains.specs.Kinds.{lastSlot}
+use Rattle.kinds.specs.Kinds.{lastSlot}
 use Rattle.trains.specs.Record.{blankTrain}
 use Rattle.trains.specs.declared.record.Train.{Train}
 use Rattle.store.specs.Layout.{bookAt, registerAt, rowOffset}

@@ -13,7 +13,7 @@ use Rattle.replay.specs.Demand3.{depth}
 use Rattle.rows.specs.Row.{rowBytes, rowAt, putRow}
 use Rattle.rows.proofs.FitLaws.{Fits}
 use Rattle.rows.proofs.RowLaws.{row-same, row-back, row-zeros, row-image, rowImage, length-put-row, bytes-put-row, byte-apart}
-use Rattle.trains.specs.Kinds.{lastSlot}
+use Rattle.kinds.specs.Kinds.{lastSlot}
 use Rattle.trains.specs.Record.{blankTrain}
 use Rattle.trains.specs.Sought.{rowCount}
 use Rattle.trains.specs.declared.record.Train.{Train}

@@ -11,11 +11,11 @@ use Rattle.rows.specs.Register.{rowOf, soughtAt, foundIn}
 use Rattle.trains.specs.Sought.{rowCount, isSought}
 use Rattle.rows.specs.Row.{rowBytes}
 use Rattle.rows.proofs.FitLaws.{Fits, fits-read}
-use Rattle.trains.specs.declared.found.Found.{Found}
-use Rattle.trains.specs.declared.found.Found.the-variants.{Nothing, Index}
-use Rattle.trains.specs.Found.{first}
+use Rattle.kinds.specs.declared.found.Found.{Found}
+use Rattle.kinds.specs.declared.found.Found.the-variants.{Nothing, Index}
+use Rattle.kinds.specs.Found.{first}
 use Rattle.trains.specs.Record.{blankTrain}
-use Rattle.trains.proofs.FoundLaws.{Before, first-below, first-true, first-before}
+use Rattle.kinds.proofs.FoundLaws.{Before, first-below, first-true, first-before}
 use Rattle.store.specs.Layout.{registerAt, entryBytes, entryOffset, sessionBytes}
 use Rattle.rules.specs.View.{View, rowIn, soughtIn, findIn}
 use Rattle.store.specs.Stands.{rowsFrom, viewOf, keptOf, headOf}

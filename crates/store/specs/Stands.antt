@@ -7,9 +7,9 @@ use Rattle.numbers.specs.Numbers.{numberAt}
 use Rattle.replay.specs.Demand3.{depth}
 use Rattle.rows.specs.Register.{rowOf}
 use Rattle.rules.specs.View.{View}
-use Rattle.trains.specs.Kinds.{lastSlot}
+use Rattle.kinds.specs.Kinds.{lastSlot}
 use Rattle.trains.specs.Sought.{rowCount}
-use Rattle.trains.specs.declared.kinds.Ticket.{Ticket}
+use Rattle.kinds.specs.declared.Ticket.{Ticket}
 use Rattle.trains.specs.declared.record.Train.{Train}
 use Rattle.store.specs.Layout.{wordBytes, counterAt, keptAt, headAt, bookAt, registerAt}
 

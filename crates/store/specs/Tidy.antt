@@ -5,7 +5,7 @@ use Prim.Native.Nat.{ℕ, _+_, _<_, _≤_}
 use lib.ListN.{getD}
 use Rattle.replay.specs.Demand3.{depth}
 use Rattle.rows.specs.Row.{rowAt, putRow}
-use Rattle.trains.specs.Kinds.{lastSlot}
+use Rattle.kinds.specs.Kinds.{lastSlot}
 use Rattle.trains.specs.Sought.{rowCount}
 use Rattle.store.specs.Layout.{bookAt, rowOffset, entryOffset, changedAt, alsoAt}
 

@@ -1,6 +1,6 @@
 // Where everything stands in a session's bytes. Each offset is worked out from the one before it, and so is the session's size.
+use kinds::LAST_SLOT;
 use rows::row;
-use trains::kinds::LAST_SLOT;
 use trains::sought;
 ghost use mathlib.Core.Path.{_≡_};
 ghost use Rattle.store.specs.Layout.{isSession, rowOffset};

@@ -1,12 +1,12 @@
 // What a session's bytes stand for: the numbers of the header, the trains in the rows, and the slots that are taken. Nothing is changed here,
 // and any bytes are read.
 use crate::layout;
+use kinds::Loco;
+use kinds::Slot;
+use kinds::Ticket;
+use kinds::found::Found;
 use rows::register;
 use rows::row;
-use trains::found::Found;
-use trains::kinds::Loco;
-use trains::kinds::Slot;
-use trains::kinds::Ticket;
 use trains::record::Train;
 use trains::sought::ROWS;
 ghost use mathlib.Core.Path.{_≡_};

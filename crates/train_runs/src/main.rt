@@ -1,17 +1,17 @@
 // Prints the row class of each mode and mode left, each cell, what each measure gives to L1 and L2, ends of authority, a train's
 // orders, and a register's searches. A line is what was asked and the answer.
+use kinds::Loco;
+use kinds::Slot;
+use kinds::Ticket;
+use kinds::found::Found;
+use kinds::ranges::Location;
 use rows::register;
 use rows::row;
 use sos::classes;
 use sos::grids;
 use sos::shares;
 use sos::shares::Share;
-use trains::found::Found;
-use trains::kinds::Loco;
-use trains::kinds::Slot;
-use trains::kinds::Ticket;
 use trains::record::Limit;
-use trains::record::Location;
 use trains::record::Train;
 use transitions::names;
 

@@ -11,11 +11,11 @@ use borrow.Author.Tests.{eq-eqb}
 use Rattle.transitions.specs.Names.{OV}
 use Rattle.trains.specs.declared.record.Limit.the-variants.{Bare}
 use Rattle.trains.specs.declared.record.Order.{Order}
-use Rattle.trains.specs.declared.record.Location.{Location}
-use Rattle.trains.specs.declared.record.Location.the-variants.{Nowhere, At}
+use Rattle.kinds.specs.declared.ranges.Location.{Location}
+use Rattle.kinds.specs.declared.ranges.Location.the-variants.{Nowhere, At}
 use Rattle.trains.specs.declared.record.Train.{Train}
 use Rattle.trains.specs.Authority.{nearer, nearest, limitStop, orderStop, orderStops, dangerStop, endWith, endFrom, endOf}
-use Rattle.trains.specs.Kinds.{sameTicket}
+use Rattle.kinds.specs.Kinds.{sameTicket}
 use Rattle.trains.specs.Record.{noTicket, orderAt}
 
 -- ---- for the loop over a train's orders

@@ -5,7 +5,7 @@ use mathlib.Core.Path.{_≡_, refl}
 use borrow.Author.Tests.{eq-eqb, ne-eqb}
 use Rattle.transitions.specs.Names.{OV}
 use Rattle.trains.specs.declared.record.Order.{Order}
-use Rattle.trains.specs.declared.record.Location.{Location}
+use Rattle.kinds.specs.declared.ranges.Location.{Location}
 use Rattle.trains.specs.declared.record.Track.{Track}
 use Rattle.trains.specs.declared.record.Train.{Train}
 use Rattle.trains.specs.Changes.{changed, onTrack, reported, authorised, endangered, leftFor, withMode}

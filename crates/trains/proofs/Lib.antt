@@ -1,5 +1,3 @@
-pub mod RangeLaws
-pub mod FoundLaws
 pub mod AuthorityLaws
 pub mod OrderLaws
 pub mod ChangeLaws

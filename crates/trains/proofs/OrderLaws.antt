@@ -6,15 +6,15 @@ use mathlib.Core.Path.{_≡_, refl}
 use native.Mathlib.Omega.{arith}
 use lib.ListN.{length}
 use lib.Seq.{getD-set-same, getD-set-other}
-use Rattle.trains.specs.declared.found.Found.{Found}
-use Rattle.trains.specs.declared.found.Found.the-variants.{Nothing, Index}
-use Rattle.trains.specs.declared.kinds.Ticket.{Ticket}
+use Rattle.kinds.specs.declared.found.Found.{Found}
+use Rattle.kinds.specs.declared.found.Found.the-variants.{Nothing, Index}
+use Rattle.kinds.specs.declared.Ticket.{Ticket}
 use Rattle.trains.specs.declared.record.Order.{Order}
-use Rattle.trains.specs.Found.{orElse}
-use Rattle.trains.specs.Kinds.{sameTicket}
+use Rattle.kinds.specs.Found.{orElse}
+use Rattle.kinds.specs.Kinds.{sameTicket}
 use Rattle.trains.specs.Record.{noTicket, noOrder, orderCount, orderAt}
 use Rattle.trains.specs.Orders.{standsUnder, placeUnder, orderPlace, room, Below, setAt}
-use Rattle.trains.proofs.FoundLaws.{first-below}
+use Rattle.kinds.proofs.FoundLaws.{first-below}
 
 -- ---- what is found is one of the four places
 

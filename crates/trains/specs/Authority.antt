@@ -8,10 +8,10 @@ use Rattle.transitions.specs.Names.{OV}
 use Rattle.trains.specs.declared.record.Limit.{Limit}
 use Rattle.trains.specs.declared.record.Limit.the-variants.{Bare, To}
 use Rattle.trains.specs.declared.record.Order.{Order}
-use Rattle.trains.specs.declared.record.Location.{Location}
-use Rattle.trains.specs.declared.record.Location.the-variants.{Nowhere, At}
+use Rattle.kinds.specs.declared.ranges.Location.{Location}
+use Rattle.kinds.specs.declared.ranges.Location.the-variants.{Nowhere, At}
 use Rattle.trains.specs.declared.record.Train.{Train}
-use Rattle.trains.specs.Kinds.{sameTicket}
+use Rattle.kinds.specs.Kinds.{sameTicket}
 use Rattle.trains.specs.Record.{noTicket, orderCount, orderAt}
 
 -- an end, or a stop that lies nearer: locations rise ahead

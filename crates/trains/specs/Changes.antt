@@ -4,7 +4,7 @@ use mathlib.Core.List.{List}
 use Prim.Native.Nat.{ℕ}
 use lib.Dec.{eqb}
 use Rattle.transitions.specs.Names.{OV}
-use Rattle.trains.specs.declared.record.Location.{Location}
+use Rattle.kinds.specs.declared.ranges.Location.{Location}
 use Rattle.trains.specs.declared.record.Position.the-variants.{Between}
 use Rattle.trains.specs.declared.record.Order.{Order}
 use Rattle.trains.specs.declared.record.Track.{Track}

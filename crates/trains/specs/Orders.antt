@@ -4,15 +4,15 @@ use mathlib.Core.List.{List}
 use mathlib.Core.Path.{_≡_}
 use Prim.Native.Nat.{ℕ, _<_}
 use lib.ListN.{set}
-use Rattle.trains.specs.declared.found.Found.{Found}
-use Rattle.trains.specs.declared.found.Found.the-variants.{Nothing, Index}
-use Rattle.trains.specs.declared.kinds.Ticket.{Ticket}
+use Rattle.kinds.specs.declared.found.Found.{Found}
+use Rattle.kinds.specs.declared.found.Found.the-variants.{Nothing, Index}
+use Rattle.kinds.specs.declared.Ticket.{Ticket}
 use Rattle.trains.specs.declared.record.Limit.{Limit}
 use Rattle.trains.specs.declared.record.Order.{Order}
 use Rattle.trains.specs.declared.record.Train.{Train}
 use Rattle.trains.specs.Changes.{changed}
-use Rattle.trains.specs.Found.{first, isFound, orElse}
-use Rattle.trains.specs.Kinds.{sameTicket}
+use Rattle.kinds.specs.Found.{first, isFound, orElse}
+use Rattle.kinds.specs.Kinds.{sameTicket}
 use Rattle.trains.specs.Record.{noTicket, noOrder, orderCount, orderAt}
 
 -- the order at place i, 0 to 3, stands under the ticket

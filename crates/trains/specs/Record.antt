@@ -4,16 +4,16 @@ use mathlib.Core.List.{List, [], _∷_}
 use Prim.Native.Nat.{ℕ}
 use lib.ListN.{getD}
 use Rattle.transitions.specs.Names.{SB}
-use Rattle.trains.specs.declared.kinds.Loco.{Loco}
-use Rattle.trains.specs.declared.kinds.Ticket.{Ticket}
-use Rattle.trains.specs.declared.kinds.Slot.{Slot}
-use Rattle.trains.specs.declared.record.Location.the-variants.{Nowhere}
+use Rattle.kinds.specs.declared.Loco.{Loco}
+use Rattle.kinds.specs.declared.Ticket.{Ticket}
+use Rattle.kinds.specs.declared.Slot.{Slot}
+use Rattle.kinds.specs.declared.ranges.Location.the-variants.{Nowhere}
 use Rattle.trains.specs.declared.record.Position.the-variants.{Unknown}
 use Rattle.trains.specs.declared.record.Limit.the-variants.{Bare}
 use Rattle.trains.specs.declared.record.Order.{Order}
 use Rattle.trains.specs.declared.record.Track.{Track}
 use Rattle.trains.specs.declared.record.Train.{Train}
-use Rattle.trains.specs.Kinds.{noLoco, sameLoco}
+use Rattle.kinds.specs.Kinds.{noLoco, sameLoco}
 
 -- the ticket that no grant gives: an order under it is none
 abbrev pub noTicket : Ticket

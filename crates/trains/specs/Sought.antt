@@ -1,11 +1,11 @@
 -- The rows of the register, and what a search of them looks for.
 use mathlib.Core.Bool.{Bool, not, _&&_}
 use Prim.Native.Nat.{ℕ}
-use Rattle.trains.specs.declared.kinds.Loco.{Loco}
+use Rattle.kinds.specs.declared.Loco.{Loco}
 use Rattle.trains.specs.declared.record.Train.{Train}
 use Rattle.trains.specs.declared.sought.Sought.{Sought}
 use Rattle.trains.specs.declared.sought.Sought.the-variants.{Pair, Number, Empty}
-use Rattle.trains.specs.Kinds.{noLoco, sameLoco, sameTicket, ticketInRange}
+use Rattle.kinds.specs.Kinds.{noLoco, sameLoco, sameTicket, ticketInRange}
 use Rattle.trains.specs.Record.{isEmpty}
 
 -- 24 trains at most: the rows of a register

@@ -1,10 +1,10 @@
 // The end of authority.
-use crate::kinds::Ticket;
 use crate::orders::ORDERS;
 use crate::record::Limit;
-use crate::record::Location;
 use crate::record::Order;
 use crate::record::Train;
+use kinds::Ticket;
+use kinds::ranges::Location;
 ghost use mathlib.Core.Path.{_≡_};
 ghost use Rattle.trains.specs.Record.{orderCount};
 ghost use Rattle.trains.specs.Authority.{nearer, nearest, orderStop, orderStops, dangerStop, endFrom, endOf};

@@ -1,8 +1,8 @@
 // Changes of a train record: each takes the record and hands the changed record back.
-use crate::record::Location;
 use crate::record::Position;
 use crate::record::Track;
 use crate::record::Train;
+use kinds::ranges::Location;
 ghost use mathlib.Core.Path.{_≡_};
 ghost use Rattle.trains.specs.Changes.{withPosition, withAuthority, withDanger, withMode};
 

@@ -1,9 +1,9 @@
 // The four orders of a train: the place of each, an order put, an order cleared.
-use crate::found::Found;
-use crate::kinds::Ticket;
 use crate::record::Limit;
 use crate::record::Order;
 use crate::record::Train;
+use kinds::Ticket;
+use kinds::found::Found;
 ghost use mathlib.Core.Path.{_≡_};
 ghost use Rattle.trains.specs.Record.{orderCount};
 ghost use Rattle.trains.specs.Orders.{placeUnder, orderPlace, room, Below, setAt, hasOrder, hasPlace, withOrder, orderCleared};

@@ -1,15 +1,10 @@
 // The train record.
-use crate::kinds::Loco;
-use crate::kinds::Slot;
-use crate::kinds::Ticket;
+use kinds::Loco;
+use kinds::Slot;
+use kinds::Ticket;
+use kinds::ranges::Location;
 ghost use mathlib.Core.Path.{_≡_};
 ghost use Rattle.trains.specs.Record.{noOrder, noTrack, plainTrain, blankTrain, freshTrain, isEmpty};
-
-// A location that may be missing.
-pub enum Location {
-    Nowhere,
-    At(u32),
-}
 
 // Front and rear, or none reported.
 pub enum Position {

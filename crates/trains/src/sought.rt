@@ -1,6 +1,6 @@
 // The rows of the register, and what a search of them looks for.
-use crate::kinds::Loco;
-use crate::kinds::Ticket;
+use kinds::Loco;
+use kinds::Ticket;
 
 // 24 trains at most.
 pub const ROWS: usize = 24;

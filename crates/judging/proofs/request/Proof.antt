@@ -6,10 +6,10 @@ use Prim.Native.Nat.{ℕ, suc}
 use native.Mathlib.Numerals.{add-one}
 use native.Mathlib.Omega.{arith}
 use borrow.Author.Tests.{ltb-true, not-false}
-use Rattle.trains.specs.Found.{isFound}
-use Rattle.trains.specs.Kinds.{lastTicket, isAbove, locoInRange}
-use Rattle.trains.specs.declared.kinds.Loco.{Loco}
-use Rattle.trains.specs.declared.kinds.Ticket.{Ticket}
+use Rattle.kinds.specs.Found.{isFound}
+use Rattle.kinds.specs.Kinds.{lastTicket, isAbove, locoInRange}
+use Rattle.kinds.specs.declared.Loco.{Loco}
+use Rattle.kinds.specs.declared.Ticket.{Ticket}
 use Rattle.trains.specs.declared.sought.Sought.the-variants.{Number}
 use Rattle.rules.specs.Refusals.{badLoco, badBytes, alreadyRegistered}
 use Rattle.rules.specs.Registering.{ticketOf, ticketFor, requestGround, rowOfFound, granted, requested}

@@ -4,8 +4,8 @@ use Prim.Native.Nat.{ℕ, _+_, _-_}
 use native.Mathlib.Omega.{arith}
 use Rattle.numbers.specs.Numbers.{putNumber}
 use Rattle.store.specs.Layout.{bookAt}
-use Rattle.trains.specs.Kinds.{lastSlot}
-use Rattle.trains.proofs.RangeLaws.{one-to}
+use Rattle.kinds.specs.Kinds.{lastSlot}
+use Rattle.kinds.proofs.RangeLaws.{one-to}
 use Rattle.entries.proofs.MarkLaws.{slot-there, slot-passed}
 use borrow.Author.Needs.{needs}
 use Rattle.entries.proofs.marks.mark_slot.Statement.{statement}

@@ -1,6 +1,6 @@
 -- `host::questions::kb_counter` meets its contract.
 use mathlib.Core.Path.{ap, _∙_}
-use Rattle.trains.specs.declared.kinds.Ticket.{Ticket}
+use Rattle.kinds.specs.declared.Ticket.{Ticket}
 use Rattle.host.specs.Told.{numberAnswer}
 use borrow.Author.Needs.{needs}
 use Rattle.host.proofs.questions.kb_counter.Statement.{statement}

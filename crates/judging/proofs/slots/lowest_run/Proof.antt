@@ -1,6 +1,6 @@
 -- `judging::slots::lowest_run` meets its contract: the starts below were passed, and the slots of the run before this one are free.
 use Prim.Native.Nat.{suc, _-_, _≤_}
-use Rattle.trains.specs.Kinds.{lastSlot}
+use Rattle.kinds.specs.Kinds.{lastSlot}
 use mathlib.Core.Path.{_≡_, refl, sym, _∙_}
 use native.Mathlib.Omega.{arith}
 use borrow.Author.Tests.{not-true, not-false}

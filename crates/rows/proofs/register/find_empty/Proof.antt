@@ -1,7 +1,7 @@
 -- `rows::register::find_empty` meets its contract.
 use mathlib.Core.Path.{_∙_}
 use Rattle.trains.specs.declared.sought.Sought.the-variants.{Empty}
-use Rattle.trains.specs.Kinds.{noLoco}
+use Rattle.kinds.specs.Kinds.{noLoco}
 use Rattle.trains.specs.Record.{noTicket}
 use Rattle.rows.proofs.RegisterLaws.{searched-sought, empty-same}
 use borrow.Author.Needs.{needs}

@@ -1,8 +1,8 @@
 -- `rows::register::search` meets its contract.
 use mathlib.Core.Path.{_≡_, refl, sym, _∙_}
 use Prim.Native.Nat.{_≤_, _-_}
-use Rattle.trains.specs.Found.{first}
-use Rattle.trains.proofs.FoundLaws.{first-hit, first-miss, first-end}
+use Rattle.kinds.specs.Found.{first}
+use Rattle.kinds.proofs.FoundLaws.{first-hit, first-miss, first-end}
 use Rattle.trains.specs.Sought.{rowCount}
 use Rattle.rows.specs.Register.{rowHolds, searched}
 use borrow.Author.Needs.{needs}

@@ -4,7 +4,7 @@ use Prim.Native.Nat.{_+_, _*_}
 use native.Mathlib.Omega.{arith}
 use borrow.Author.Tests.{eq-eqb, ne-eqb}
 use Rattle.numbers.specs.Pieces.{unpack}
-use Rattle.trains.specs.declared.record.Location.the-variants.{At}
+use Rattle.kinds.specs.declared.ranges.Location.the-variants.{At}
 use Rattle.rows.specs.Parts.{locationOf}
 use Rattle.rows.proofs.Bytewise.{at-bit}
 use borrow.Author.Needs.{needs}

@@ -2,7 +2,7 @@
 use mathlib.Core.Path.{sym, ap, _∙_}
 use Prim.Native.Nat.{_*_}
 use Rattle.numbers.specs.Pieces.{pack}
-use Rattle.trains.specs.declared.record.Location.{Location}
+use Rattle.kinds.specs.declared.ranges.Location.{Location}
 use Rattle.rows.specs.Parts.{bits, flaggedSizes, locationValues}
 use borrow.Author.Needs.{needs}
 use Rattle.rows.proofs.row.put_location.Statement.{statement}

@@ -4,7 +4,8 @@ use mathlib.Core.Bool.{false}
 use Prim.Native.Nat.{ℕ}
 use borrow.Author.Tests.{eq-eqb, ne-eqb}
 use Rattle.sos.specs.{Grids.cellOf, Grids.measureOf, Grids.aspectOf, Shares.shareOfL1, Shares.shareOfL2, declared.shares.Share.Share}
-use Rattle.trains.specs.declared.{kinds.Ticket.Ticket, record.Train.Train}
+use Rattle.kinds.specs.declared.{Ticket.Ticket}
+use Rattle.trains.specs.declared.{record.Train.Train}
 use Rattle.rules.specs.declared.{named.Named.Named, raising.Side.Side}
 use Rattle.rules.specs.{Effect.change, Effect.effect, Effect.noSlot, Ruling.acceptedWith, Ruling.ruling, Ruling.ruled}
 use Rattle.rules.specs.Raising.{trainClass, cellFor, shareFor2, shareFor1, shareTaken, sideOf, sideGround, sosGround, raised}

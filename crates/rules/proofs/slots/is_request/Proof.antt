@@ -3,7 +3,7 @@ use mathlib.Core.Path.{_≡_, sym, _∙_, ap}
 use mathlib.Core.Bool.{Bool, _&&_}
 use borrow.Author.Tests.{le-leb, lt-leb}
 use lib.Dec.{leb}
-use Rattle.trains.specs.Ranges.{oneTo}
+use Rattle.kinds.specs.Ranges.{oneTo}
 use Rattle.rules.specs.Slots.{isRequest}
 use borrow.Author.Needs.{needs}
 use Rattle.rules.proofs.slots.is_request.Statement.{statement}

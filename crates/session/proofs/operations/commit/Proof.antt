@@ -15,16 +15,14 @@ returns c =
 returns-2 : tie.Need-returns-2
 returns-2 c =
     let whole = c .before .before .before .before .before .before .before in
-    let r = whole .before .before .before .before .args .ruling in
-    (
+    let r = whole .before .before .before .before .args .ruling in (
       sym (of-session _ _ (sym (whole .before .is-session .ensures) ∙ not-false _ (whole .if1 .left))),
       c .before .before .settle .ensures ∙ taken-in _ r (c .before .before .before .before .if2 .taken),
     )
 
 returns-3 : tie.Need-returns-3
 returns-3 c =
-    let whole = c .before .before .before in
-    (
+    let whole = c .before .before .before in (
       sym (of-session _ _ (sym (whole .before .is-session .ensures) ∙ not-false _ (whole .if1 .left))),
       not-taken _ (whole .before .before .before .before .args .ruling) (c .if2 .left),
     )

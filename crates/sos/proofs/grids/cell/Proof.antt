@@ -3,7 +3,7 @@ use mathlib.Core.Path.{sym, _∙_}
 use borrow.Author.Tests.{not-true, not-false}
 use native.Mathlib.Omega.{arith}
 use Rattle.sos.specs.Grids.{cellOf}
-use Rattle.trains.proofs.RangeLaws.{one-to}
+use Rattle.kinds.proofs.RangeLaws.{one-to}
 use borrow.Author.Needs.{needs}
 use Rattle.sos.proofs.grids.cell.Statement.{statement}
 use Rattle.sos.proofs.grids.cell.Tie as tie

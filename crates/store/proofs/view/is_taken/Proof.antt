@@ -6,8 +6,8 @@ use borrow.Author.Tests.{not-true, not-false}
 use native.Mathlib.Omega.{arith}
 use lib.Dec.{eqb}
 use Rattle.numbers.proofs.NumberLaws.{number-byte}
-use Rattle.trains.specs.Kinds.{lastSlot}
-use Rattle.trains.proofs.RangeLaws.{one-to}
+use Rattle.kinds.specs.Kinds.{lastSlot}
+use Rattle.kinds.proofs.RangeLaws.{one-to}
 use Rattle.store.specs.Layout.{bookAt}
 use Rattle.store.proofs.BookLaws.{taken-by, not-in-book}
 use borrow.Author.Needs.{needs}

@@ -1,10 +1,10 @@
 -- `trains::orders::place_under` meets its contract.
 use mathlib.Core.Path.{_≡_, refl, sym, _∙_}
 use Prim.Native.Nat.{_≤_, _-_}
-use Rattle.trains.specs.Found.{first}
+use Rattle.kinds.specs.Found.{first}
 use Rattle.trains.specs.Record.{orderCount}
 use Rattle.trains.specs.Orders.{standsUnder, placeUnder}
-use Rattle.trains.proofs.FoundLaws.{first-hit, first-miss, first-end}
+use Rattle.kinds.proofs.FoundLaws.{first-hit, first-miss, first-end}
 use borrow.Author.Needs.{needs}
 use Rattle.trains.proofs.orders.place_under.Statement.{statement}
 use Rattle.trains.proofs.orders.place_under.Tie as tie

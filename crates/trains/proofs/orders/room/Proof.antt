@@ -1,6 +1,6 @@
 -- `trains::orders::room` meets its contract.
 use mathlib.Core.Path.{_∙_}
-use Rattle.trains.specs.Found.{orElse}
+use Rattle.kinds.specs.Found.{orElse}
 use Rattle.trains.specs.Orders.{room}
 use borrow.Author.Needs.{needs}
 use Rattle.trains.proofs.orders.room.Statement.{statement}

@@ -1,6 +1,6 @@
 -- `trains::record::Train::end` meets its contract.
 use mathlib.Core.Path.{ap, sym, _∙_}
-use Rattle.trains.specs.declared.record.Location.the-variants.{At}
+use Rattle.kinds.specs.declared.ranges.Location.the-variants.{At}
 use Rattle.trains.specs.Authority.{endWith}
 use borrow.Author.Needs.{needs}
 use Rattle.trains.proofs.record.Train.end.Statement.{statement}

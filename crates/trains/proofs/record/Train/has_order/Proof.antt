@@ -1,6 +1,6 @@
 -- `trains::record::Train::has_order` meets its contract.
 use mathlib.Core.Path.{ap, _∙_}
-use Rattle.trains.specs.Found.{isFound}
+use Rattle.kinds.specs.Found.{isFound}
 use borrow.Author.Needs.{needs}
 use Rattle.trains.proofs.record.Train.has_order.Statement.{statement}
 use Rattle.trains.proofs.record.Train.has_order.Tie as tie

@@ -1,10 +1,10 @@
--- `trains::ranges::is_none_or_location` meets its contract.
+-- `kinds::ranges::is_none_or_location` meets its contract.
 use borrow.Author.Tests.{eq-eqb, ne-eqb}
 use mathlib.Core.Path.{_∙_}
-use Rattle.trains.specs.Ranges.{isNoneOrLocation}
+use Rattle.kinds.specs.Ranges.{isNoneOrLocation}
 use borrow.Author.Needs.{needs}
-use Rattle.trains.proofs.ranges.is_none_or_location.Statement.{statement}
-use Rattle.trains.proofs.ranges.is_none_or_location.Tie as tie
+use Rattle.kinds.proofs.ranges.is_none_or_location.Statement.{statement}
+use Rattle.kinds.proofs.ranges.is_none_or_location.Tie as tie
 
 returns : tie.Need-returns
 unfolding isNoneOrLocation

@@ -1,7 +1,12 @@
 // The range rules that operations ask for: a location, a position, a grid; and the number that stands for no location.
-use crate::record::Location;
 ghost use mathlib.Core.Path.{_≡_};
-ghost use Rattle.trains.specs.Ranges.{oneTo, isLocation, isPosition, isGrid, isNoneOrLocation, locationFrom};
+ghost use Rattle.kinds.specs.Ranges.{oneTo, isLocation, isPosition, isGrid, isNoneOrLocation, locationFrom};
+
+// A location that may be missing.
+pub enum Location {
+    Nowhere,
+    At(u32),
+}
 
 pub const LAST_LOCATION: u32 = 524287;
 

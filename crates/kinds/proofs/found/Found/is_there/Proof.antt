@@ -1,9 +1,9 @@
--- `trains::found::Found::is_there` meets its contract.
+-- `kinds::found::Found::is_there` meets its contract.
 use mathlib.Core.Path.{ap, sym}
-use Rattle.trains.specs.Found.{isFound}
+use Rattle.kinds.specs.Found.{isFound}
 use borrow.Author.Needs.{needs}
-use Rattle.trains.proofs.found.Found.is_there.Statement.{statement}
-use Rattle.trains.proofs.found.Found.is_there.Tie as tie
+use Rattle.kinds.proofs.found.Found.is_there.Statement.{statement}
+use Rattle.kinds.proofs.found.Found.is_there.Tie as tie
 
 returns : tie.Need-returns
 unfolding isFound

@@ -1,8 +1,8 @@
--- `trains::ranges::is_position` meets its contract.
-use Rattle.trains.specs.Ranges.{isPosition}
+-- `kinds::ranges::is_position` meets its contract.
+use Rattle.kinds.specs.Ranges.{isPosition}
 use borrow.Author.Needs.{needs}
-use Rattle.trains.proofs.ranges.is_position.Statement.{statement}
-use Rattle.trains.proofs.ranges.is_position.Tie as tie
+use Rattle.kinds.proofs.ranges.is_position.Statement.{statement}
+use Rattle.kinds.proofs.ranges.is_position.Tie as tie
 
 returns : tie.Need-returns
 unfolding isPosition

@@ -2,10 +2,10 @@
 use mathlib.Core.Bool.{Bool}
 use Prim.Native.Nat.{ℕ}
 use lib.Dec.{eqb, ltb}
-use Rattle.trains.specs.declared.kinds.Loco.{Loco}
-use Rattle.trains.specs.declared.kinds.Ticket.{Ticket}
-use Rattle.trains.specs.declared.kinds.Slot.{Slot}
-use Rattle.trains.specs.Ranges.{oneTo}
+use Rattle.kinds.specs.declared.Loco.{Loco}
+use Rattle.kinds.specs.declared.Ticket.{Ticket}
+use Rattle.kinds.specs.declared.Slot.{Slot}
+use Rattle.kinds.specs.Ranges.{oneTo}
 
 -- the highest loco number
 abbrev pub lastLoco : ℕ

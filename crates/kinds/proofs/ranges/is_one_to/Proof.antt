@@ -1,8 +1,8 @@
--- `trains::ranges::is_one_to` meets its contract.
+-- `kinds::ranges::is_one_to` meets its contract.
 use borrow.Author.Tests.{le-leb, lt-leb}
-use Rattle.trains.specs.Ranges.{oneTo}
-use Rattle.trains.proofs.ranges.is_one_to.Statement.{statement}
-use Rattle.trains.proofs.ranges.is_one_to.Tie as tie
+use Rattle.kinds.specs.Ranges.{oneTo}
+use Rattle.kinds.proofs.ranges.is_one_to.Statement.{statement}
+use Rattle.kinds.proofs.ranges.is_one_to.Tie as tie
 
 returns : tie.Need-returns
 unfolding oneTo

@@ -1,8 +1,10 @@
 // The three kinds of number that name something in a session. Each is compared by its own `is`, tickets by `is_above` too, so that a loco
 // number or a slot can't reach a ticket comparison, and each knows its range.
-use crate::ranges;
+pub mod found;
+pub mod ranges;
+
 ghost use mathlib.Core.Path.{_≡_};
-ghost use Rattle.trains.specs.Kinds.{noLoco, sameLoco, sameTicket, isAbove, sameSlot, locoInRange, ticketInRange, slotInRange};
+ghost use Rattle.kinds.specs.Kinds.{noLoco, sameLoco, sameTicket, isAbove, sameSlot, locoInRange, ticketInRange, slotInRange};
 
 pub const LAST_LOCO: u32 = 131070;
 

@@ -4,7 +4,7 @@ use mathlib.Core.Bool.{true, and-eq-true-iff}
 use Prim.Native.Nat.{ℕ, _≤_}
 use lib.Dec.{leb}
 use borrow.Author.Tests.{leb-true}
-use Rattle.trains.specs.Ranges.{oneTo, isPosition, lastLocation}
+use Rattle.kinds.specs.Ranges.{oneTo, isPosition, lastLocation}
 
 -- 1 to a last number
 pub one-to : (last n : ℕ) → oneTo last n ≡ true → (1 ≤ n) × (n ≤ last)

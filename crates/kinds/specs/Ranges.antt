@@ -2,8 +2,8 @@
 use mathlib.Core.Bool.{Bool, cond, _&&_, _||_}
 use Prim.Native.Nat.{ℕ}
 use lib.Dec.{eqb, leb}
-use Rattle.trains.specs.declared.record.Location.{Location}
-use Rattle.trains.specs.declared.record.Location.the-variants.{Nowhere, At}
+use Rattle.kinds.specs.declared.ranges.Location.{Location}
+use Rattle.kinds.specs.declared.ranges.Location.the-variants.{Nowhere, At}
 
 -- the highest location, in metres
 abbrev pub lastLocation : ℕ

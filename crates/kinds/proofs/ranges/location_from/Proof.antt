@@ -1,8 +1,8 @@
--- `trains::ranges::location_from` meets its contract.
+-- `kinds::ranges::location_from` meets its contract.
 use borrow.Author.Tests.{eq-eqb, ne-eqb}
-use Rattle.trains.specs.Ranges.{locationFrom}
-use Rattle.trains.proofs.ranges.location_from.Statement.{statement}
-use Rattle.trains.proofs.ranges.location_from.Tie as tie
+use Rattle.kinds.specs.Ranges.{locationFrom}
+use Rattle.kinds.proofs.ranges.location_from.Statement.{statement}
+use Rattle.kinds.proofs.ranges.location_from.Tie as tie
 
 returns : tie.Need-returns
 unfolding locationFrom

@@ -1,6 +1,6 @@
 // What a search of numbered things finds.
 ghost use mathlib.Core.Path.{_≡_};
-ghost use Rattle.trains.specs.Found.{isFound};
+ghost use Rattle.kinds.specs.Found.{isFound};
 
 pub enum Found {
     Nothing,
