@@ -76,13 +76,9 @@ pub fn sos(
 ) -> Ruling
     ensures { λ r. ⌜ r ≡ judged settings (now (s .entry)) (Op.sos loco2 ticket2 loco1 ticket1 grid) ⌝ }
 {
-    raising::raise(
-        settings.margin,
-        grid,
-        view::counter(s),
-        named::find(s, loco2, ticket2),
-        named::find(s, loco1, ticket1),
-    )
+    let l2 = named::find(s, loco2, ticket2);
+    let l1 = named::find(s, loco1, ticket1);
+    raising::raise(settings.margin, grid, view::counter(s), l2, l1)
 }
 
 // The effective end of a named train, which changes nothing.

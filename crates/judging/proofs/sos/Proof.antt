@@ -13,9 +13,9 @@ unfolding judged rule groundOf doneBy
 returns c =
     let a = c .before .before .before .before .before .args in
     c .raise .ensures
-    ∙ (λ i. let counter = c .before .before .before .counter .ensures i in
-    let l2 = c .before .before .find .ensures i in
-    let l1 = c .before .find2 .ensures i in
+    ∙ (λ i. let counter = c .before .counter .ensures i in
+    let l2 = c .before .before .before .find .ensures i in
+    let l1 = c .before .before .find2 .ensures i in
     ruled counter (sosGround (a .settings .margin) (a .grid) l2 l1) (raised (a .settings .margin) (a .grid) counter l2 l1))
 
 pub sos-spec : {M : Type 1} → statement M
