@@ -4,12 +4,11 @@ use mathlib.Core.Bool.{Bool, true, false, _&&_}
 use mathlib.Core.List.{List}
 use Prim.Native.Nat.{ℕ, _+_, _≤_, _<_}
 use native.Mathlib.Omega.{arith}
-use lib.Dec.{ltb, leb}
 use lib.ListN.{length}
 use borrow.Author.Tests.{eqb-true, ltb-true, leb-true}
 use Rattle.numbers.proofs.Logic.{both}
 use Rattle.replay.specs.Demand3.{depth}
-use Rattle.store.specs.Layout.{isSession, entryBytes, sessionBytes}
+use Rattle.store.specs.Layout.{entryBytes, sessionBytes}
 use Rattle.trains.specs.Sought.{rowCount}
 use Rattle.kinds.specs.declared.Slot.{Slot}
 use Rattle.entries.specs.Entry.{hasEntry}

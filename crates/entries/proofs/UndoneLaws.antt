@@ -1,5 +1,5 @@
 -- Laws of an entry undone: the view is the entry's, as of any effect, and nothing but the book and the register changes.
-use Prim.Native.Nat.{ℕ, _+_, _*_, _≤_, _<_}
+use Prim.Native.Nat.{ℕ, _+_, _*_, _≤_}
 use mathlib.Core.List.{List}
 use mathlib.Core.Logic.{⊎-elim, inr}
 use mathlib.Core.Path.{_≡_, refl}

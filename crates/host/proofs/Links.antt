@@ -1,12 +1,10 @@
 -- THE C FUNCTIONS ARE THE SESSION'S. For each operation under its name in C: the contract that the function was proved to meet asks nothing, and what it
 -- promises of the answer and of the lent bytes IS what the theorem says of session's operation. Each is `refl`: one proposition, not two.
-use mathlib.Core.Path.{_≡_, refl}
+use mathlib.Core.Path.{refl}
 use mathlib.Core.List.{List}
 use Prim.Native.Nat.{ℕ}
-use base.Logic.{sep, emp}
 use contract.Lifetimes.{Lfts}
-use contract.Monad.{fact}
-use borrow.Fn.World.{World, Pr}
+use borrow.Fn.World.{World}
 use denote.Ref.{RefT, now}
 use Rattle.replay.specs.Demand3.{op}
 use Rattle.rules.specs.Deeds.{Deed, flags, position, authority, danger, clear}

@@ -1,5 +1,5 @@
 -- DEMAND 3 OF A HOST: operations and records mixed in any order do to a session what the calls that they make do, so demand 3 holds of those.
-use mathlib.Core.Path.{_≡_, refl, sym, ap, _∙_, subst}
+use mathlib.Core.Path.{_≡_, refl, sym, subst}
 use mathlib.Core.Bool.{Bool, true, false, cond}
 use mathlib.Core.List.{List, [], _∷_}
 use Prim.Native.Nat.{ℕ}

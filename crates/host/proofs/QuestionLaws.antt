@@ -1,6 +1,6 @@
 -- Two sessions with the same view, counter and entries kept answer alike: every question, and every call.
 use mathlib.Core.Path.{_≡_, sym, ap, _∙_}
-use mathlib.Core.Bool.{Bool, true, cond}
+use mathlib.Core.Bool.{cond}
 use mathlib.Core.List.{List}
 use Prim.Native.Nat.{ℕ, _-_}
 use borrow.Author.Tests.{eq-eqb}

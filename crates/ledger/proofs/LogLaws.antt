@@ -1,5 +1,5 @@
 -- Laws of the log: its entries have no byte in common, it starts with the newest, and the empty session has none.
-use Prim.Native.Nat.{ℕ, zero, suc, _+_, _*_, _-_, _≤_, _<_}
+use Prim.Native.Nat.{ℕ, zero, suc, _-_, _<_}
 use mathlib.Core.List.{List, [], _∷_}
 use mathlib.Core.Logic.{⊎-elim, inl, inr, _≢_}
 use mathlib.Core.Path.{_≡_, ap}

@@ -5,7 +5,7 @@ use store::view;
 ghost use mathlib.Core.Path.{_≡_};
 ghost use lib.ListN.{length};
 ghost use Rattle.store.specs.Layout.{sessionBytes};
-ghost use Rattle.ledger.specs.Back.{stepped, steppedBy, steppedIn};
+ghost use Rattle.ledger.specs.Back.{stepped, steppedIn};
 
 // The latest entry undone: one fewer is kept, where there is one. The ticket counter stays.
 fn step_one(s: &mut [u8])

@@ -5,7 +5,6 @@ use mathlib.Core.List.{List, [], _∷_, _++_, append-assoc}
 use Prim.Native.Nat.{ℕ, zero, suc, _+_, _≤_, _<_}
 use native.Mathlib.Omega.{arith}
 use borrow.Author.Tests.{ne-eqb}
-use lib.Dec.{eqb}
 use lib.ListN.{length, drop, length-drop}
 use Rattle.lines.specs.Text.{endLine}
 use Rattle.records.specs.Form.{mostRecords, recordLength, isRun}

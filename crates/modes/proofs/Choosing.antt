@@ -8,7 +8,6 @@ use native.Mathlib.Nat.{min-eq-left, min-eq-right}
 use native.Mathlib.Omega.{arith}
 use lib.ListN.{length, length-append}
 use borrow.Author.Tests.{lt-ltb, le-ltb, eq-eqb, ne-eqb, eqb-true}
-use Rattle.numbers.specs.Numbers.{oneIf}
 use Rattle.numbers.proofs.Logic.{lt-or-le}
 use Rattle.transitions.specs.Table.{Transition, those}
 use Rattle.transitions.proofs.Members.{of-those, in-those, some, none}

@@ -1,11 +1,11 @@
 -- Laws of `Fields`, each once for every width: what a read gives of what was written, and what a write leaves alone.
-use mathlib.Core.Path.{_≡_, refl, sym, ap, ap₂, _∙_, subst}
+use mathlib.Core.Path.{_≡_, refl, sym, ap, ap₂, _∙_}
 use mathlib.Core.List.{List}
 use mathlib.Core.Logic.{⊎-elim, ⊎-map, _⊎_, inl, inr, _≢_}
 use native.Mathlib.Decide.{ℕ-discrete}
 use lib.Arith.{digits-lt}
 use Prim.Native.Nat.{ℕ, zero, suc, _+_, _-_, _*_, _/_, _%_, _^_, _≤_, _<_}
-use native.Mathlib.Nat.{add-zero, add-suc, add-assoc, pow-suc, mod-lt, mul-assoc, mul-add-mod-self-right, mod-eq-of-lt, div-lt-iff-lt-mul, div-add-mod', eq-or-lt-of-le, zero-div, mul-add-div-right, mul-comm, mod-one, div-one, lt-of-lt-of-le}
+use native.Mathlib.Nat.{add-zero, add-suc, add-assoc, pow-suc, mod-lt, mul-assoc, mul-add-mod-self-right, mod-eq-of-lt, eq-or-lt-of-le, zero-div, mul-add-div-right, mul-comm, mod-one, div-one}
 use native.Mathlib.Omega.{arith}
 use lib.ListN.{length, getD, set, take, length-set, List·getD-eq-default}
 use lib.Seq.{getD-set-same, getD-set-other, set-out, ext-getD, getD-take}

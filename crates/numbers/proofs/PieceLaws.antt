@@ -1,6 +1,6 @@
 -- Laws of pieces, each for any list of widths.
 use mathlib.Core.Path.{_≡_, refl, sym, ap, ap₂, _∙_}
-use mathlib.Core.List.{List, [], _∷_, _++_, append-assoc}
+use mathlib.Core.List.{List, [], _∷_, _++_}
 use mathlib.Core.Logic.{⊎-elim, _⊎_, inl, inr}
 use Prim.Native.Nat.{ℕ, zero, suc, _+_, _-_, _*_, _^_, _≤_, _<_}
 use native.Mathlib.Nat.{add-assoc, add-zero, add-suc, suc-add, mul-zero, mul-suc}
@@ -9,7 +9,7 @@ use native.Mathlib.Omega.{arith}
 use lib.ListN.{length, getD, set, take, drop, length-append, length-take, length-drop}
 use lib.Seq.{sets, ext-getD, getD-take, getD-drop, drop-cons, drop-drop}
 use Rattle.numbers.specs.Fields.{bitAt, field, put}
-use Rattle.numbers.proofs.FieldLaws.{length-put, field-front, bit-put-out, field-put, field-put-out, bit-put-field, field-ext, Bytes, bytes-put, same-byte, same-bytes, lt-or-le}
+use Rattle.numbers.proofs.FieldLaws.{length-put, field-front, bit-put-out, field-put, bit-put-field, field-ext, Bytes, bytes-put, same-byte, same-bytes, lt-or-le}
 use Rattle.numbers.specs.Pieces.{total, times, unpack, pack}
 
 pub length-unpack : (s : List ℕ) (p : ℕ) (ws : List ℕ) → length (unpack s p ws) ≡ length ws

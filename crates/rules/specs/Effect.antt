@@ -1,5 +1,5 @@
 -- What an accepted operation does to the view: a run of slots side by side marked in the book, one row changed, and for an SOS a second one.
-use mathlib.Core.Bool.{Bool, true, false, cond}
+use mathlib.Core.Bool.{Bool, false, cond}
 use mathlib.Core.List.{List}
 use Prim.Native.Nat.{ℕ, zero, suc, _-_}
 use lib.ListN.{set}

@@ -1,5 +1,5 @@
 -- SOS between L1 and L2: each train's order by the cell of the grid, under the other train's ticket. All is judged before anything is changed.
-use mathlib.Core.Bool.{Bool, true, false, not, _||_}
+use mathlib.Core.Bool.{Bool, false, not, _||_}
 use Prim.Native.Nat.{ℕ}
 use lib.Dec.{eqb}
 use Rattle.sos.specs.{Classes.classOf, Shares.shareOfL1, Shares.shareOfL2}

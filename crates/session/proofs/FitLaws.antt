@@ -9,20 +9,17 @@ use lib.Dec.{eqb}
 use Rattle.modes.specs.declared.Step.{Step}
 use Rattle.modes.specs.Next.{refuses, nextStep}
 use Rattle.modes.proofs.Laws.{refused-exactly-on-its-grounds, next-is-a-mode}
-use Rattle.trains.specs.Authority.{endOf}
 use Rattle.trains.specs.Changes.{withMode}
-use Rattle.kinds.specs.Kinds.{lastLoco, lastTicket, lastSlot}
 use Rattle.kinds.specs.Ranges.{none, lastLocation, isLocation, isPosition, isNoneOrLocation, locationFrom}
 use Rattle.trains.specs.Record.{blankTrain}
-use Rattle.trains.specs.Sought.{rowCount}
 use Rattle.kinds.specs.declared.Loco.{Loco}
 use Rattle.kinds.specs.declared.Ticket.{Ticket}
 use Rattle.kinds.specs.declared.ranges.Location.the-variants.{Nowhere, At}
 use Rattle.trains.specs.declared.record.Train.{Train}
 use Rattle.kinds.proofs.RangeLaws.{position-ends}
-use Rattle.rows.proofs.FitLaws.{Byte, Word, LocationFits, Fits, fits-read, fits-fresh, fits-position, fits-authority, fits-danger, fits-mode, fits-cleared}
+use Rattle.rows.proofs.FitLaws.{Byte, LocationFits, Fits, fits-read, fits-fresh, fits-position, fits-authority, fits-danger, fits-mode, fits-cleared}
 use Rattle.rows.proofs.RowLaws.{row-zeros}
-use Rattle.rules.specs.Deeds.{Deed, flags, position, authority, danger, clear, done, changedIf, changedWith, stepTaken, modeStepped, endAnswer}
+use Rattle.rules.specs.Deeds.{Deed, flags, position, authority, danger, clear, done, changedIf, changedWith, stepTaken, modeStepped}
 use Rattle.rules.specs.Named.{namedIn}
 use Rattle.rules.specs.Raising.{cellFor, shareFor2, shareFor1, raised}
 use Rattle.rules.specs.Registering.{ticketFor, granted, released}
@@ -30,11 +27,10 @@ use Rattle.rules.specs.Rules.{Op, request, release, on, sos, groundOf, doneBy}
 use Rattle.rules.specs.Ruling.{refusedWith}
 use Rattle.rules.specs.Slots.{slotsFor}
 use Rattle.rules.specs.View.{View, rowIn}
-use Rattle.rules.specs.declared.deeds.Changed.{Changed}
 use Rattle.rules.specs.declared.named.Named.{Named}
 use Rattle.rules.specs.declared.settings.Settings.{Settings}
 use Rattle.sos.specs.Grids.{measureOf}
-use Rattle.order.proofs.Facts.{runFor, Requests, requests, Names, names, Raises, raises}
+use Rattle.order.proofs.Facts.{runFor, requests, Names, names, raises}
 use Rattle.order.proofs.SoundLaws.{rows-within}
 use Rattle.ledger.proofs.SettledLaws.{EffectFits}
 use Rattle.session.proofs.ShareLaws.{share-of-l1-fits, share-of-l2-fits, share-taken-fits}

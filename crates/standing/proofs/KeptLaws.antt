@@ -25,9 +25,8 @@ use Rattle.rules.specs.Ruling.{acceptedWith, refusedWith}
 use Rattle.rules.specs.View.{View}
 use Rattle.rules.specs.declared.effect.Effect.{Effect}
 use Rattle.rules.specs.declared.ruling.Answer.{Answer}
-use Rattle.rules.specs.declared.ruling.Ruling.{Ruling}
 use Rattle.order.proofs.RuleLaws.{grant-told}
-use Rattle.store.specs.Layout.{sessionBytes, isSession}
+use Rattle.store.specs.Layout.{isSession}
 use Rattle.store.specs.Lent.{Lent}
 use Rattle.store.specs.Stands.{viewOf, counterOf, keptOf, headOf}
 use Rattle.ledger.specs.Back.{steppedBy}

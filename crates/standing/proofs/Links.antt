@@ -11,7 +11,6 @@ use denote.Ref.{RefT, now}
 use Rattle.kinds.specs.declared.Loco.{Loco}
 use Rattle.kinds.specs.declared.Ticket.{Ticket}
 use Rattle.replay.specs.Demand3.{Call}
-use Rattle.rules.specs.Deeds.{meant}
 use Rattle.rules.specs.Rules.{Op}
 use Rattle.rules.specs.declared.deeds.Deed.{Deed}
 use Rattle.rules.specs.declared.ruling.Answer.{Answer}

@@ -3,32 +3,30 @@ use mathlib.Core.Path.{_≡_, refl, sym, ap, _∙_, subst, subst₂}
 use mathlib.Core.Bool.{Bool, true, false, cond}
 use mathlib.Core.List.{List, [], _∷_}
 use mathlib.Core.Logic.{⊎-elim}
-use Prim.Native.Nat.{ℕ, _≤_}
+use Prim.Native.Nat.{ℕ}
 use native.Mathlib.Decide.{ℕ-discrete}
 use lib.ListN.{length}
 use Rattle.numbers.proofs.FieldLaws.{lt-or-le}
 use Rattle.replay.specs.Always.{Lasts}
-use Rattle.replay.specs.Rules.{accept, ticketDue, verdict, counterAfter}
+use Rattle.replay.specs.Rules.{accept, verdict, counterAfter}
 use Rattle.replay.specs.Demand3.{Call, op, back, History, Starts, Made}
 use Rattle.replay.proofs.Always.{always}
 use Rattle.kinds.specs.declared.Ticket.{Ticket}
 use Rattle.rules.specs.Effect.{applied}
 use Rattle.rules.specs.Registering.{ticketOf, ticketFor}
-use Rattle.rules.specs.Rules.{Op, grants, groundOf, doneBy, rule}
+use Rattle.rules.specs.Rules.{Op, grants, groundOf, doneBy}
 use Rattle.rules.specs.View.{View}
 use Rattle.rules.specs.declared.ruling.Answer.{Answer}
 use Rattle.rules.specs.declared.ruling.Ruling.{Ruling}
 use Rattle.rules.specs.declared.settings.Settings.{Settings}
 use Rattle.order.specs.InOrder.{InOrder}
-use Rattle.order.specs.Sound.{Sound}
 use Rattle.order.proofs.RuleLaws.{accepted-plain, accepted-exactly, counter-done}
-use Rattle.order.proofs.OrderLaws.{order-kept, order-higher, order-sound}
+use Rattle.order.proofs.OrderLaws.{order-kept, order-higher}
 use Rattle.store.specs.Layout.{sessionBytes}
 use Rattle.store.specs.Lent.{Lent}
 use Rattle.store.specs.Stands.{viewOf, counterOf, keptOf}
 use Rattle.store.specs.Tidy.{Tidy}
 use Rattle.store.proofs.TidyLaws.{emptied-tidy}
-use Rattle.ledger.specs.Back.{steppedBy}
 use Rattle.ledger.proofs.BackLaws.{stepped-by-lent}
 use Rattle.ledger.proofs.BoundsLaws.{stepped-in}
 use Rattle.ledger.proofs.TidyLaws.{stepped-by-tidy}
@@ -38,7 +36,7 @@ use Rattle.settings.specs.Usual.{usual}
 use Rattle.session.proofs.AfterLaws.{after-lent, after-tidy, refused-bytes}
 use Rattle.stepback.proofs.BackLaws.{of-session, back-far, back-near}
 use Rattle.standing.specs.Said.{Reply}
-use Rattle.standing.specs.Standing.{outcome, rules, answered, bytesLeft, session}
+use Rattle.standing.specs.Standing.{outcome, rules, bytesLeft, session}
 use Rattle.standing.specs.Calls.{history, bytesAfterAll}
 use Rattle.standing.specs.Functions.{startCame}
 use Rattle.standing.specs.Ordered.{Ordered}

@@ -7,8 +7,8 @@ use Rattle.kinds.specs.declared.Loco.{Loco}
 use Rattle.kinds.specs.declared.Ticket.{Ticket}
 use Rattle.rules.specs.Effect.{applied}
 use Rattle.rules.specs.Registering.{ticketFor}
-use Rattle.rules.specs.Rules.{release, groundOf, doneBy}
-use Rattle.rules.specs.View.{View, rowIn}
+use Rattle.rules.specs.Rules.{release, groundOf}
+use Rattle.rules.specs.View.{rowIn}
 use Rattle.rules.specs.declared.ruling.Answer.{Answer}
 use Rattle.rules.specs.declared.ruling.Ruling.{Ruling}
 use Rattle.order.specs.Scar.{Called, NamesNone, Released}

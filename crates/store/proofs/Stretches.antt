@@ -1,12 +1,12 @@
 -- Stretches of bytes: what a run of stores puts and what it leaves, and stretches that are read.
-use Prim.Native.Nat.{ℕ, zero, suc, _+_, _-_, _≤_, _<_}
+use Prim.Native.Nat.{ℕ, suc, _+_, _-_, _≤_, _<_}
 use mathlib.Core.List.{List, [], _∷_}
-use mathlib.Core.Logic.{⊎-elim, _⊎_, inl, inr}
-use mathlib.Core.Path.{_≡_, refl, sym, ap, _∙_}
+use mathlib.Core.Logic.{_⊎_, inl, inr}
+use mathlib.Core.Path.{_≡_, sym, _∙_}
 use native.Mathlib.Decide.{ℕ-discrete}
 use native.Mathlib.Omega.{arith}
-use lib.ListN.{length, getD, set, take, drop, length-take, length-drop, length-set, List·getD-eq-default}
-use lib.Seq.{sets, length-sets, getD-take, getD-drop, getD-set-same, getD-set-other, set-out, ext-getD}
+use lib.ListN.{length, getD, set, take, drop, length-take, length-drop, List·getD-eq-default}
+use lib.Seq.{sets, getD-take, getD-drop, getD-set-same, getD-set-other, set-out, ext-getD}
 use Rattle.numbers.proofs.FieldLaws.{Bytes, lt-or-le}
 
 -- what stands before a run of n bytes at i, or behind it

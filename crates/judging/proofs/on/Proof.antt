@@ -1,5 +1,5 @@
 -- `judging::on` meets its contract.
-use mathlib.Core.Path.{ap, _∙_}
+use mathlib.Core.Path.{_∙_}
 use Rattle.rules.specs.Deeds.{meant, done, deedGround, deedDone}
 use Rattle.rules.specs.Ruling.{ruled}
 use Rattle.rules.specs.Rules.{groundOf, doneBy, rule}

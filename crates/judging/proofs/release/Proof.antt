@@ -1,5 +1,5 @@
 -- `judging::release` meets its contract.
-use mathlib.Core.Path.{ap, _∙_}
+use mathlib.Core.Path.{_∙_}
 use Rattle.rules.specs.Named.{nameGround}
 use Rattle.rules.specs.Registering.{released}
 use Rattle.rules.specs.Ruling.{ruled}

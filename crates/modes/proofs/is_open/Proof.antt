@@ -1,6 +1,6 @@
 -- `modes::is_open` meets its contract. The loop's invariant: no condition passed is set, so one is set exactly where one of the rest is.
 use mathlib.Core.Path.{_≡_, refl, _∙_, sym}
-use Prim.Native.Nat.{_≤_, _-_}
+use Prim.Native.Nat.{_-_}
 use native.Mathlib.Omega.{arith}
 use lib.ListN.{getD, drop}
 use borrow.Author.Needs.{needs}

@@ -1,5 +1,4 @@
 -- `numbers::put_byte` meets its contract.
-use Prim.Native.Nat.{ℕ}
 use mathlib.Core.Path.{sym, ap, _∙_}
 use lib.ListN.{set}
 use Rattle.numbers.proofs.FieldLaws.{put-byte}

@@ -3,7 +3,6 @@ use Prim.Native.Nat.{ℕ, _/_}
 use mathlib.Core.Path.{sym, ap, _∙_}
 use mathlib.Core.List.{List}
 use native.Mathlib.Omega.{arith}
-use lib.ListN.{length}
 use Rattle.numbers.specs.Numbers.{putNumber}
 use Rattle.numbers.proofs.FieldLaws.{length-put}
 use Rattle.numbers.proofs.NumberLaws.{number-put, number-put-past}

@@ -1,6 +1,5 @@
 -- `host::questions::kb_train` meets its contract.
-use mathlib.Core.Path.{sym, ap, _∙_}
-use mathlib.Core.Bool.{cond}
+use mathlib.Core.Path.{ap, _∙_}
 use borrow.Author.Tests.{not-true, not-false}
 use Rattle.host.specs.Told.{trainTold, trainAnswer}
 use borrow.Author.Needs.{needs}

@@ -1,5 +1,4 @@
 -- `host::told::tell_order` meets its contract.
-use Rattle.host.specs.Told.{orderTold}
 use borrow.Author.Needs.{needs}
 use Rattle.host.proofs.told.tell_order.Statement.{statement}
 use Rattle.host.proofs.told.tell_order.Tie as tie

@@ -1,5 +1,5 @@
 -- `judging::named::find` meets its contract.
-use mathlib.Core.Path.{_≡_, sym, ap, _∙_}
+use mathlib.Core.Path.{sym, ap, _∙_}
 use Rattle.rules.specs.Named.{inRow, namedIn}
 use Rattle.store.specs.Stands.{viewOf}
 use mathlib.Core.Bool.{true}

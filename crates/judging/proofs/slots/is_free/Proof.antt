@@ -1,6 +1,5 @@
 -- `judging::slots::is_free` meets its contract.
-use mathlib.Core.Path.{_≡_, sym, ap, _∙_}
-use native.Mathlib.Omega.{arith}
+use mathlib.Core.Path.{ap, _∙_}
 use mathlib.Core.Bool.{not}
 use Rattle.judging.proofs.SlotLaws.{free-in, free-out, in-book, not-in-book}
 use mathlib.Core.Logic.{inl, inr}

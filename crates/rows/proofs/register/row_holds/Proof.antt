@@ -1,10 +1,9 @@
 -- `rows::register::row_holds` meets its contract.
-use mathlib.Core.Path.{_≡_, ap, _∙_}
+use mathlib.Core.Path.{ap, _∙_}
 use Prim.Native.Nat.{ℕ}
-use mathlib.Core.Bool.{Bool}
 use lib.Dec.{eqb}
 use borrow.Author.Tests.{not-true, not-false}
-use Rattle.rows.specs.Register.{rowOf, rowHolds}
+use Rattle.rows.specs.Register.{rowHolds}
 use Rattle.rows.proofs.RegisterLaws.{loco-word, ticket-word}
 use borrow.Author.Needs.{needs}
 use Rattle.rows.proofs.register.row_holds.Statement.{statement}

@@ -1,9 +1,7 @@
 -- `rules::deeds::act` meets its contract.
-use Rattle.rules.specs.Deeds.{meant, changedIf, modeStepped, done}
+use Rattle.rules.specs.Deeds.{meant, modeStepped, done}
 use Rattle.rules.specs.declared.deeds.Deed.{Deed}
-use Rattle.modes.specs.declared.Step.{Step}
-use Rattle.trains.specs.declared.record.Train.{Train}
-use mathlib.Core.Path.{_≡_, sym, _∙_, ap}
+use mathlib.Core.Path.{sym, _∙_, ap}
 use borrow.Author.Needs.{needs}
 use Rattle.rules.proofs.deeds.act.Statement.{statement}
 use Rattle.rules.proofs.deeds.act.Tie as tie

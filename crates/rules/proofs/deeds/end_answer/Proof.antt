@@ -1,5 +1,5 @@
 -- `rules::deeds::end_answer` meets its contract.
-use mathlib.Core.Path.{_≡_, sym, ap, _∙_}
+use mathlib.Core.Path.{sym, ap, _∙_}
 use Rattle.rules.specs.Deeds.{endAnswer}
 use borrow.Author.Needs.{needs}
 use Rattle.rules.proofs.deeds.end_answer.Statement.{statement}

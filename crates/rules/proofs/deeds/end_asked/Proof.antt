@@ -1,6 +1,6 @@
 -- `rules::deeds::end_asked` meets its contract.
-use mathlib.Core.Path.{_≡_, refl, sym, ap, _∙_}
-use Rattle.rules.specs.{Deeds.endAnswer, Deeds.endAsked}
+use mathlib.Core.Path.{_∙_}
+use Rattle.rules.specs.{Deeds.endAsked}
 use borrow.Author.Needs.{needs}
 use Rattle.rules.proofs.deeds.end_asked.Statement.{statement}
 use Rattle.rules.proofs.deeds.end_asked.Tie as tie

@@ -1,5 +1,5 @@
 -- `rules::deeds::on` meets its contract.
-use mathlib.Core.Path.{_≡_, refl, sym, ap, _∙_}
+use mathlib.Core.Path.{ap, _∙_}
 use Rattle.rules.specs.declared.deeds.Changed.{Changed}
 use Rattle.rules.specs.{Deeds.deedGround, Deeds.deedDone, Named.nameGround, Ruling.ruled}
 use Rattle.rules.proofs.ChainLaws.{ruled-by-name}

@@ -1,6 +1,5 @@
 -- `rules::deeds::step` meets its contract.
-use mathlib.Core.Path.{_≡_, refl, sym, ap, _∙_}
-use borrow.Author.Tests.{eq-eqb, ne-eqb, not-true, not-false}
+use borrow.Author.Tests.{eq-eqb, ne-eqb}
 use Rattle.rules.specs.Deeds.{stepTaken, modeStepped}
 use borrow.Author.Needs.{needs}
 use Rattle.rules.proofs.deeds.step.Statement.{statement}

@@ -1,6 +1,6 @@
 -- `rules::named::answer` meets its contract.
-use mathlib.Core.Path.{_≡_, refl, sym, ap, _∙_}
-use borrow.Author.Tests.{eq-eqb, ne-eqb, not-true, not-false}
+use mathlib.Core.Path.{sym, _∙_}
+use borrow.Author.Tests.{not-true, not-false}
 use borrow.Author.Needs.{needs}
 use Rattle.rules.proofs.named.answer.Statement.{statement}
 use Rattle.rules.proofs.named.answer.Tie as tie

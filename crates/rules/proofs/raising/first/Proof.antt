@@ -1,6 +1,4 @@
 -- `rules::raising::first` meets its contract.
-use mathlib.Core.Path.{_≡_, refl, sym, ap, _∙_}
-use borrow.Author.Needs.{needs}
 use Rattle.rules.proofs.raising.first.Statement.{statement}
 use Rattle.rules.proofs.raising.first.Tie as tie
 

@@ -1,5 +1,5 @@
 -- `rules::raising::ground` meets its contract.
-use mathlib.Core.Path.{_≡_, refl, sym, ap, _∙_}
+use mathlib.Core.Path.{refl, sym, ap, _∙_}
 use mathlib.Core.Bool.{not}
 use Rattle.rules.proofs.ChainLaws.{checked, at-its-start, at-its-end}
 use borrow.Author.Needs.{needs}

@@ -1,5 +1,5 @@
 -- `rules::raising::lacks` meets its contract.
-use mathlib.Core.Path.{_≡_, refl, sym, ap, _∙_}
+use mathlib.Core.Path.{sym, ap, _∙_}
 use Rattle.sos.specs.declared.shares.Share.{Share}
 use Rattle.rules.specs.{Raising.shareGround, Ruling.when}
 use borrow.Author.Needs.{needs}

@@ -1,14 +1,13 @@
 -- `rules::raising::raise` meets its contract.
-use mathlib.Core.Path.{_≡_, sym, ap, _∙_}
+use mathlib.Core.Path.{_≡_, ap, _∙_}
 use mathlib.Core.Bool.{false}
 use Prim.Native.Nat.{ℕ}
 use borrow.Author.Tests.{eq-eqb, ne-eqb}
 use Rattle.sos.specs.{Grids.cellOf, Grids.measureOf, Grids.aspectOf, Shares.shareOfL1, Shares.shareOfL2, declared.shares.Share.Share}
 use Rattle.kinds.specs.declared.{Ticket.Ticket}
 use Rattle.trains.specs.declared.{record.Train.Train}
-use Rattle.rules.specs.declared.{named.Named.Named, raising.Side.Side}
 use Rattle.rules.specs.{Effect.change, Effect.effect, Effect.noSlot, Ruling.acceptedWith, Ruling.ruling, Ruling.ruled}
-use Rattle.rules.specs.Raising.{trainClass, cellFor, shareFor2, shareFor1, shareTaken, sideOf, sideGround, sosGround, raised}
+use Rattle.rules.specs.Raising.{cellFor, shareFor2, shareFor1, shareTaken, sideOf, sideGround, sosGround, raised}
 use borrow.Author.Needs.{needs}
 use Rattle.rules.proofs.raising.raise.Statement.{statement}
 use Rattle.rules.proofs.raising.raise.Tie as tie

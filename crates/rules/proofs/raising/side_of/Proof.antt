@@ -1,5 +1,4 @@
 -- `rules::raising::side_of` meets its contract.
-use mathlib.Core.Path.{_≡_, refl, sym, ap, _∙_}
 use borrow.Author.Needs.{needs}
 use Rattle.rules.proofs.raising.side_of.Statement.{statement}
 use Rattle.rules.proofs.raising.side_of.Tie as tie

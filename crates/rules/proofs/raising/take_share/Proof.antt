@@ -1,6 +1,5 @@
 -- `rules::raising::take_share` meets its contract.
-use mathlib.Core.Path.{_≡_, sym, ap, _∙_}
-use mathlib.Core.Bool.{not}
+use mathlib.Core.Path.{sym, ap, _∙_}
 use Rattle.sos.specs.declared.shares.Share.{Share}
 use Rattle.rules.specs.Raising.{shareTaken}
 use borrow.Author.Needs.{needs}

@@ -1,5 +1,5 @@
 -- `rules::registering::grant` meets its contract.
-use mathlib.Core.Path.{_≡_, refl, sym, ap, _∙_}
+use mathlib.Core.Path.{_∙_}
 use Rattle.rules.specs.Registering.{granted}
 use borrow.Author.Needs.{needs}
 use Rattle.rules.proofs.registering.grant.Statement.{statement}

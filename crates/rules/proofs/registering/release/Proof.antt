@@ -1,5 +1,5 @@
 -- `rules::registering::release` meets its contract.
-use mathlib.Core.Path.{_≡_, refl, sym, ap, _∙_}
+use mathlib.Core.Path.{_∙_}
 use Rattle.rules.specs.{Named.nameGround, Registering.released}
 use Rattle.rules.proofs.ChainLaws.{ruled-by-name}
 use borrow.Author.Needs.{needs}

@@ -1,8 +1,5 @@
 -- `rules::slots::is_request` meets its contract.
-use mathlib.Core.Path.{_≡_, sym, _∙_, ap}
-use mathlib.Core.Bool.{Bool, _&&_}
 use borrow.Author.Tests.{le-leb, lt-leb}
-use lib.Dec.{leb}
 use Rattle.kinds.specs.Ranges.{oneTo}
 use Rattle.rules.specs.Slots.{isRequest}
 use borrow.Author.Needs.{needs}

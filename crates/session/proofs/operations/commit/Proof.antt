@@ -1,5 +1,5 @@
 -- `session::operations::commit` meets its contract.
-use mathlib.Core.Path.{_≡_, sym, _∙_}
+use mathlib.Core.Path.{sym, _∙_}
 use borrow.Author.Tests.{not-true, not-false}
 use Rattle.stepback.proofs.BackLaws.{of-session, of-none}
 use Rattle.session.proofs.OperationLaws.{taken-in, not-taken, taken-elsewhere}

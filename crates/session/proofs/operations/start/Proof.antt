@@ -1,5 +1,5 @@
 -- `session::operations::start` meets its contract.
-use mathlib.Core.Path.{_≡_, sym, _∙_}
+use mathlib.Core.Path.{sym, _∙_}
 use mathlib.Core.Bool.{cond}
 use borrow.Author.Tests.{not-true, not-false}
 use Rattle.store.specs.Emptied.{emptied}

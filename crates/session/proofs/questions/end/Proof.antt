@@ -1,5 +1,5 @@
 -- `session::questions::end` meets its contract.
-use mathlib.Core.Path.{_≡_, sym, _∙_}
+use mathlib.Core.Path.{sym, _∙_}
 use borrow.Author.Tests.{not-true, not-false}
 use Rattle.session.specs.Answers.{endAnswerTo}
 use Rattle.stepback.proofs.BackLaws.{of-session, of-none}

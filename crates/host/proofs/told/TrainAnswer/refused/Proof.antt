@@ -1,7 +1,6 @@
 -- `host::told::TrainAnswer::refused` meets its contract.
 use mathlib.Core.Path.{refl}
 use Rattle.host.specs.Told.{trainRefused}
-use borrow.Author.Needs.{needs}
 use Rattle.host.proofs.told.TrainAnswer.refused.Statement.{statement}
 use Rattle.host.proofs.told.TrainAnswer.refused.Tie as tie
 

@@ -1,6 +1,5 @@
 -- `rules::deeds::Changed::given` meets its contract.
-use Rattle.rules.specs.Deeds.{endAnswer, changedIf, changedWith}
-use mathlib.Core.Path.{_∙_, ap}
+use Rattle.rules.specs.Deeds.{changedIf}
 use borrow.Author.Needs.{needs}
 use Rattle.rules.proofs.deeds.Changed.given.Statement.{statement}
 use Rattle.rules.proofs.deeds.Changed.given.Tie as tie

@@ -1,5 +1,4 @@
 -- `rules::named::Named::nobody` meets its contract.
-use mathlib.Core.Path.{_∙_, ap}
 use borrow.Author.Needs.{needs}
 use Rattle.rules.proofs.named.Named.nobody.Statement.{statement}
 use Rattle.rules.proofs.named.Named.nobody.Tie as tie

@@ -1,6 +1,6 @@
 -- `rules::ruling::Ruling::answered` meets its contract.
-use mathlib.Core.Path.{_≡_, refl, sym, ap, _∙_}
-use borrow.Author.Tests.{eq-eqb, ne-eqb, not-true, not-false}
+use mathlib.Core.Path.{_∙_}
+use borrow.Author.Tests.{eq-eqb, ne-eqb}
 use Rattle.rules.specs.Ruling.{ruled}
 use borrow.Author.Needs.{needs}
 use Rattle.rules.proofs.ruling.Ruling.answered.Statement.{statement}

@@ -1,5 +1,5 @@
 -- `rules::ruling::Ruling::refused` meets its contract.
-use mathlib.Core.Path.{_≡_, refl, sym, ap, _∙_}
+use mathlib.Core.Path.{_∙_}
 use borrow.Author.Needs.{needs}
 use Rattle.rules.proofs.ruling.Ruling.refused.Statement.{statement}
 use Rattle.rules.proofs.ruling.Ruling.refused.Tie as tie
