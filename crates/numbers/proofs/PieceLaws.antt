@@ -7,7 +7,7 @@ use native.Mathlib.Nat.{add-assoc, add-zero, add-suc, suc-add, mul-zero, mul-suc
 use native.Mathlib.Numerals.{add-one}
 use native.Mathlib.Omega.{arith}
 use lib.ListN.{length, getD, set, take, drop, length-append, length-take, length-drop}
-use lib.Seq.{sets, ext-getD, getD-take, getD-drop, drop-cons, drop-drop}
+use lib.Seq.{sets, ext-getD, getD-take, getD-drop, drop-cons}
 use Rattle.numbers.specs.Fields.{bitAt, field, put}
 use Rattle.numbers.proofs.FieldLaws.{length-put, field-front, bit-put-out, field-put, bit-put-field, field-ext, Bytes, bytes-put, same-byte, same-bytes, lt-or-le}
 use Rattle.numbers.specs.Pieces.{total, times, unpack, pack}
@@ -145,16 +145,6 @@ pub times-suc : (n : ℕ) (ws : List ℕ) → times (suc n) ws ≡ ws ++ times n
 unfolding times
 times-suc n ws = refl
 
--- the same where the pieces come m times, and a turn stores all of one time
-pub fill-times : (l s : List ℕ) (i p : ℕ) (ws : List ℕ) (m k t : ℕ) → 0 < m → length ws ≡ k → total ws ≡ t
-    → sets (sets l i (unpack s p ws)) (i + k) (unpack s (p + t) (times (m - 1) ws)) ≡ sets l i (unpack s p (times m ws))
-fill-times l s i p ws m k t h ek et =
-    let e : m ≡ suc (m - 1) = omega arith in
-    rw (← ek, ← et)
-    (ap (λ (n : ℕ). sets (sets l i (unpack s p ws)) (i + n) (unpack s (p + total ws) (times (m - 1) ws))) (sym (length-unpack s p ws))
-    ∙ sym (sets-append l i (unpack s p ws) (unpack s (p + total ws) (times (m - 1) ws)))
-    ∙ ap (sets l i) (sym (unpack-append s p ws (times (m - 1) ws)) ∙ ap (unpack s p) (sym (times-suc (m - 1) ws) ∙ ap (λ (n : ℕ). times n ws) (sym e))))
-
 pub length-times : (n : ℕ) (ws : List ℕ) (k : ℕ) → length ws ≡ k → length (times n ws) ≡ k * n
 unfolding times
 length-times zero ws k e = sym (mul-zero k)
@@ -191,13 +181,3 @@ pub put-step : (o vs : List ℕ) (q : ℕ) (ws : List ℕ) (i j w : ℕ) → j <
     → pack (put o q w (getD vs i 0)) (q + w) (drop (j + 1) ws) (drop (i + 1) vs) ≡ pack o q (drop j ws) (drop i vs)
 unfolding pack
 put-step o vs q ws i j w hj hi e = rw (add-one, add-one, e, drop-cons ws j 0 hj, drop-cons vs i 0 hi)
-
--- the same where the pieces come m times, and a turn writes all of one time
-pub put-times : (o vs : List ℕ) (i p : ℕ) (ws : List ℕ) (m k t : ℕ) → 0 < m → length ws ≡ k → total ws ≡ t
-    → pack (pack o p ws (drop i vs)) (p + t) (times (m - 1) ws) (drop (i + k) vs) ≡ pack o p (times m ws) (drop i vs)
-put-times o vs i p ws m k t h ek et =
-    let e : m ≡ suc (m - 1) = omega arith in
-    rw (← ek, ← et)
-    (ap (λ (l : List ℕ). pack (pack o p ws (drop i vs)) (p + total ws) (times (m - 1) ws) l) (sym (drop-drop (length ws) i vs))
-    ∙ sym (pack-append o p ws (times (m - 1) ws) (drop i vs))
-    ∙ ap (λ (l : List ℕ). pack o p l (drop i vs)) (sym (times-suc (m - 1) ws) ∙ ap (λ (n : ℕ). times n ws) (sym e)))

@@ -16,7 +16,7 @@ use Rattle.trains.specs.declared.record.Train.{Train}
 use Rattle.trains.specs.Record.{orderCount, orderAt, blankTrain}
 use Rattle.rows.specs.Parts.{bits, trackSizes, orderSizes, ordersSizes, trackOf, ordersOf, trackValues, orderValues, ordersValues, locationOf, limitOf, positionOf}
 use Rattle.rows.specs.Row.{rowBytes, trackStart, ordersStart, headSizes, headValues, rowAt, putRow, rowSizes, rowValues, trainOf}
-use Rattle.rows.proofs.Bytewise.{unpack-past, pack-past, field-same, unpack-same, pack-same, bit-of-byte}
+use Rattle.rows.proofs.Bytewise.{unpack-past, field-same, unpack-same, pack-same, bit-of-byte}
 use Rattle.rows.proofs.FitLaws.{Fits, row-fit, train-back}
 
 -- ---- a row by its parts
@@ -87,11 +87,6 @@ order-end os k s p h = let z : orderCount - k ≡ 0 = omega arith in λ i. pack 
 pub row-past : (s : List ℕ) (at : ℕ) → length s ≤ at → rowAt s at ≡ blankTrain
 unfolding rowAt locationOf limitOf positionOf
 row-past s at h = ap trainOf (unpack-past s (8 * at) (bits rowSizes) (omega arith))
-
--- and is not put
-pub put-row-past : (s : List ℕ) (at : ℕ) (t : Train) → length s ≤ at → putRow s at t ≡ s
-unfolding putRow
-put-row-past s at t h = pack-past s (8 * at) (bits rowSizes) (rowValues t) (omega arith)
 
 -- ---- a row is fixed by its 67 bytes
 

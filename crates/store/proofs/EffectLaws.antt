@@ -15,16 +15,11 @@ use Rattle.kinds.specs.Ranges.{oneTo}
 use Rattle.trains.specs.Record.{blankTrain}
 use Rattle.kinds.proofs.RangeLaws.{one-to}
 use Rattle.rules.specs.declared.effect.Effect.{Effect}
-use Rattle.rules.specs.Effect.{markFor, slotMarked, marked, applied}
+use Rattle.rules.specs.Effect.{slotMarked, marked, applied}
 use Rattle.rules.specs.View.{View, rowIn, markOf, isTaken}
-use Rattle.store.proofs.BookLaws.{length-marked, length-slot-marked}
+use Rattle.store.proofs.BookLaws.{length-slot-marked}
 
 -- ---- rows
-
--- as many rows as before
-pub applied-rows : (v : View) (e : Effect) → length (applied v e .rows) ≡ length (v .rows)
-unfolding applied
-applied-rows v e = length-set (set (v .rows) (e .changed .row) (e .changed .train)) (e .also .row) (e .also .train) ∙ length-set (v .rows) (e .changed .row) (e .changed .train)
 
 -- the second change's row is its record
 pub applied-also : (v : View) (e : Effect) → e .also .row < length (v .rows) → rowIn (applied v e) (e .also .row) ≡ e .also .train
@@ -48,11 +43,6 @@ applied-row-stays v e j n m =
     ∙ getD-set-other (v .rows) (e .changed .row) j (e .changed .train) blankTrain n
 
 -- ---- the book
-
--- as many slots as before
-pub applied-book : (v : View) (e : Effect) → length (applied v e .book) ≡ length (v .book)
-unfolding applied
-applied-book v e = length-marked (v .book) (e .start .0) (e .slots) (markFor (e .taken))
 
 slot-stays : (book : List ℕ) (slot mark other : ℕ) → 1 ≤ other → other ≢ slot → getD (slotMarked book slot mark) (other - 1) 0 ≡ getD book (other - 1) 0
 unfolding slotMarked
