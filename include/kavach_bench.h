@@ -67,8 +67,7 @@ enum kb_reason {
     KB_NO_TICKET = 14,  /* the ticket counter is at 65,535; a step back gives none back, so start a new session */
     KB_NO_RUN = 15,     /* no free run of slots is long enough */
     KB_NO_TRAIN = 16,   /* no live train has this loco and ticket together */
-    KB_RANGE = 17,      /* a flag, mode, location, frame or grid out of range; flags not 91 bytes; rear above front; station
-                           frame below the onboard one */
+    KB_RANGE = 17,      /* a flag, mode, location, frame or grid out of range; flags not 91 bytes; rear above front */
     KB_NO_POSITION = 18, /* the order needs a position that was never reported */
     KB_NO_CLASS = 19,   /* a train of the SOS is in a mode without a row class, or the grid has no order for L2's class */
     KB_NO_PLACE = 20,   /* a train holds four orders already, none of them under the other's ticket */
@@ -146,14 +145,14 @@ kb_gates_answer kb_write_gates(const uint8_t *gates, size_t gates_len, uint8_t *
 
 typedef struct kb_age_answer {
     uint32_t answer;
-    uint32_t age;         /* (station less onboard) / 2, rounded down */
+    uint32_t age;         /* (station less onboard, modulo 86,400) / 2, rounded down */
     uint32_t condition24; /* 1 where the frame part of condition 24 holds: an age of 0 or 1 */
     uint32_t condition26; /* 1 where condition 26 holds: an age over 14 */
     uint32_t condition27; /* 1 where condition 27 holds: an age under 5 */
 } kb_age_answer;
 
-/* The age of the onboard frame by the station's. Refused: 17 a frame number not 1 to 86,400, or the station's below the
- * onboard one. */
+/* The age of the onboard frame by the station's, over midnight too: station 1 and onboard 86,399 have an age of 1. Refused: 17 a
+ * frame number not 1 to 86,400. */
 kb_age_answer kb_frame_age(uint32_t station, uint32_t onboard);
 
 typedef struct kb_step_answer {

@@ -1,10 +1,10 @@
 #!/usr/bin/env python3
-"""Prints what the program modes_runs must write, from document 01 alone.
+"""Prints what the program modes_runs must write, from documents 01 and 02 (T-02) alone.
 
   python3 tests/mode_steps.py > crates/modes_runs/stdout     (from the repository's root)
 
 The transitions are read from tests/mode_lines.txt, the thirteen lines of document 01 word for word:
-`- MODE: TARGET:conditions/priority ..`. The rules below restate the document and share nothing with src/ or specs/.
+`- MODE: TARGET:conditions/priority ..`. The rules below restate the documents and share nothing with src/ or specs/.
 """
 import pathlib
 
@@ -39,9 +39,9 @@ def step(mode, flags):
 def age(station, onboard):
     """answer, age, the frame part of condition 24, conditions 26 and 27"""
     frames = range(1, 86400 + 1)
-    if station not in frames or onboard not in frames or station < onboard:
+    if station not in frames or onboard not in frames:
         return 17, 0, 0, 0, 0
-    half = (station - onboard) // 2
+    half = (station - onboard) % 86400 // 2
     return 0, half, int(half in (0, 1)), int(half > 14), int(half < 5)
 
 
@@ -63,6 +63,7 @@ print("flags 90", *step(1, [1] * 90))
 print("flags 92", *step(1, [1] * 92))
 print("flag 2", *step(1, [2] * 91))
 for station, onboard in [(20, 11), (500, 500), (503, 500), (504, 500), (509, 500), (510, 500), (529, 500), (530, 500), (1, 1),
-                         (86400, 86400), (86400, 1), (1, 86400), (11, 20), (0, 0), (1, 0), (86401, 86400), (86401, 86401),
-                         (4294967295, 1), (4294967295, 4294967295)]:
+                         (86400, 86400), (86400, 1), (1, 86400), (1, 86399), (2, 86399), (3, 86399), (8, 86399), (9, 86399),
+                         (28, 86399), (29, 86399), (11, 20), (1, 2), (86399, 86400), (0, 0), (1, 0), (0, 1), (0, 86400), (86400, 0),
+                         (86401, 1), (1, 86401), (86401, 86400), (86401, 86401), (4294967295, 1), (4294967295, 4294967295)]:
     print("age", station, onboard, *age(station, onboard))

@@ -1,17 +1,19 @@
--- The grounds of refusal: what numbers that are not refused have, and the frame age on either side of them.
+-- The ground of refusal: what numbers that are not refused have, and the frame age on either side of it.
 use mathlib.Core.Path.{_≡_}
-use mathlib.Core.Bool.{true, false, _||_}
+use mathlib.Core.Bool.{true, false}
 use Prim.Native.Nat.{ℕ, _≤_}
 use borrow.Author.Tests.{ltb-false}
 use Rattle.numbers.proofs.Logic.{neither}
-use Rattle.clock.specs.Age.{notAFrame, stationBelow, ageOf, aged, refused, refuses, frameAge}
+use Rattle.clock.specs.Age.{lastFrame, notAFrame, Frame, ageOf, aged, refused, refuses, frameAge}
+
+frame : (n : ℕ) → notAFrame n ≡ false → Frame n
+unfolding notAFrame
+frame n e = let h = neither _ _ e in (ltb-false n 1 (h .0), ltb-false lastFrame n (h .1))
 
 module _ (station onboard : ℕ) where
-  pub not-below : refuses station onboard ≡ false → onboard ≤ station
-  unfolding refuses stationBelow
-  not-below e =
-      ltb-false station onboard
-      (neither (notAFrame onboard) (stationBelow station onboard) (neither (notAFrame station) (notAFrame onboard || stationBelow station onboard) e .1) .1)
+  pub both-frames : refuses station onboard ≡ false → Frame station × Frame onboard
+  unfolding refuses
+  both-frames e = let h = neither _ _ e in (frame station (h .0), frame onboard (h .1))
 
   pub age-refused : refuses station onboard ≡ true → refused ≡ frameAge station onboard
   unfolding frameAge

@@ -1,11 +1,11 @@
--- The age of a frame and the conditions that hang on it (document 01, "Frame age").
+-- The age of a frame and the conditions that hang on it (document 01, "Frame age"; document 02, T-02).
 use mathlib.Core.Bool.{Bool, cond, _||_}
-use Prim.Native.Nat.{ℕ, _-_, _/_}
+use Prim.Native.Nat.{ℕ, _+_, _-_, _/_, _%_, _≤_}
 use lib.Dec.{leb, ltb}
 use Rattle.numbers.specs.Numbers.{oneIf}
 use Rattle.clock.specs.declared.FrameAge.{FrameAge}
 
--- frame numbers run from 1 to this one
+-- the frames of a day are numbered from 1 to this one, and 1 comes again after it
 abbrev pub lastFrame : ℕ
 lastFrame = 86_400
 
@@ -13,13 +13,17 @@ lastFrame = 86_400
 unfoldable pub notAFrame : ℕ → Bool
 notAFrame n = ltb n 1 || ltb lastFrame n
 
--- ground of refusal: the station's number is below the onboard one, so that they have no difference
-unfoldable pub stationBelow : ℕ → ℕ → Bool
-stationBelow station onboard = ltb station onboard
+-- a frame's number
+abbrev pub Frame : ℕ → Type 0
+Frame n = (1 ≤ n) × (n ≤ lastFrame)
 
--- how many frames the station's number is ahead of the onboard one
+-- the number of the frame that comes k frames later
+unfoldable pub later : ℕ → ℕ → ℕ
+later k n = (n - 1 + k) % lastFrame + 1
+
+-- how many frames the station's number is ahead of the onboard one, round the day
 unfoldable pub difference : ℕ → ℕ → ℕ
-difference station onboard = station - onboard
+difference station onboard = (station + lastFrame - onboard) % lastFrame
 
 -- the age is half the difference, rounded down
 unfoldable pub ageOf : ℕ → ℕ → ℕ
@@ -48,7 +52,7 @@ aged age =
       condition27 = oneIf (condition27 age);
     }
 
--- the answer's number on each ground of refusal
+-- the answer's number where it is refused
 abbrev pub outOfRange : ℕ
 outOfRange = 17
 
@@ -56,9 +60,9 @@ outOfRange = 17
 abbrev pub refused : FrameAge
 refused = record { answer = outOfRange; age = 0; condition24 = 0; condition26 = 0; condition27 = 0 }
 
--- the grounds of refusal together
+-- either number is no frame's
 unfoldable pub refuses : ℕ → ℕ → Bool
-refuses station onboard = notAFrame station || (notAFrame onboard || stationBelow station onboard)
+refuses station onboard = notAFrame station || notAFrame onboard
 
 -- the frame age, for any two numbers
 unfoldable pub frameAge : ℕ → ℕ → FrameAge

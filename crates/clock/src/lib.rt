@@ -1,4 +1,4 @@
-// The frame age (document 01, "Frame age"), and whether the conditions that hang on it hold.
+// The frame age (document 01, "Frame age"; document 02, T-02), and whether the conditions that hang on it hold.
 use numbers::one_if;
 ghost use mathlib.Core.Path.{_≡_};
 ghost use mathlib.Core.Bool.{false};
@@ -30,19 +30,17 @@ fn is_no_frame(n: u32) -> bool
 fn is_refused(station: u32, onboard: u32) -> bool
     ensures { λ r. ⌜ r ≡ refuses station onboard ⌝ }
 {
-    if is_no_frame(station) {
-        return true;
-    }
-    if is_no_frame(onboard) {
-        return true;
-    }
-    station < onboard
+    is_no_frame(station) || is_no_frame(onboard)
 }
 
+// Across midnight the station's number is the lower one.
 fn difference(station: u32, onboard: u32) -> u32
     requires { ⌜ refuses station onboard ≡ false ⌝ }
     ensures { λ r. ⌜ r ≡ difference station onboard ⌝ }
 {
+    if station < onboard {
+        return station + LAST_FRAME - onboard;
+    }
     station - onboard
 }
 
@@ -59,7 +57,7 @@ fn answer_for(age: u32) -> FrameAge
     }
 }
 
-// The age of the onboard frame by the station's, refused where either is no frame's number or the station's is the lower one.
+// The age of the onboard frame by the station's, refused where either is no frame's number.
 pub fn frame_age(station: u32, onboard: u32) -> FrameAge
     ensures { λ r. ⌜ r ≡ frameAge station onboard ⌝ }
 {

@@ -125,7 +125,22 @@ fn age(station: u32, onboard: u32) {
     text(b"\n");
 }
 
-// The paper's example; equal numbers; the ages on both sides of each condition; the ends; numbers that are refused.
+// The least differences, the ages on both sides of each condition, and a station just behind.
+fn over_midnight() {
+    age(1, 86_400);
+    age(1, 86_399);
+    age(2, 86_399);
+    age(3, 86_399);
+    age(8, 86_399);
+    age(9, 86_399);
+    age(28, 86_399);
+    age(29, 86_399);
+    age(11, 20);
+    age(1, 2);
+    age(86_399, 86_400);
+}
+
+// The paper's example; equal numbers; the ages on both sides of each condition; the ends; midnight; numbers that are refused.
 fn ages() {
     age(20, 11);
     age(500, 500);
@@ -138,10 +153,14 @@ fn ages() {
     age(1, 1);
     age(86_400, 86_400);
     age(86_400, 1);
-    age(1, 86_400);
-    age(11, 20);
+    over_midnight();
     age(0, 0);
     age(1, 0);
+    age(0, 1);
+    age(0, 86_400);
+    age(86_400, 0);
+    age(86_401, 1);
+    age(1, 86_401);
     age(86_401, 86_400);
     age(86_401, 86_401);
     age(4_294_967_295, 1);

@@ -74,6 +74,8 @@ struct Seen {
     calls: u64,
     kinds: BTreeSet<u32>,
     foreign: u64,
+    /// Frame ages of a station whose number is the lower one.
+    over_midnight: u64,
     answers: BTreeMap<u32, u64>,
 }
 
@@ -95,6 +97,9 @@ impl Seen {
         }
         self.calls += 1;
         self.kinds.insert(call.kind as u32);
+        if call.kind == Kind::FrameAge && call.n[0] < call.n[1] && reply.words[0] == 0 {
+            self.over_midnight += 1;
+        }
     }
 }
 
@@ -200,6 +205,7 @@ fn run_random(seed: u64, count: u64, command: &[String]) -> Result<(), String> {
     let seen = run(seed, count, command).map_err(|fault| format!("seed {seed}, {fault}"))?;
     let listed: Vec<String> = seen.answers.iter().map(|(answer, times)| format!("{answer}: {times}")).collect();
     println!("host: answers {}", listed.join(", "));
+    println!("host: {} of the frame ages over midnight", seen.over_midnight);
     println!(
         "host: {} calls tried with seed {seed}, {} of them on foreign sessions: no difference",
         seen.calls, seen.foreign

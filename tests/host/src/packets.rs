@@ -116,15 +116,20 @@ fn packet(random: &mut Random) -> Vec<u8> {
     packet
 }
 
+/// The frame that comes so many frames later.
+fn later(frame: u32, by: u32) -> u32 {
+    (frame - 1 + by) % 86_400 + 1
+}
+
+/// Any two numbers; any two frames; two frames with few between them, most of them round midnight.
 fn frame_age(random: &mut Random) -> Call {
-    let onboard = random.from(1, 86_400);
-    let station = onboard.saturating_add(random.below(40));
-    match random.below(5) {
-        0 => {
-            let (a, b) = (random.number(), random.number());
-            Call::new(Kind::FrameAge, &[a, b])
-        }
-        1 => Call::new(Kind::FrameAge, &[random.from(1, 86_400), onboard]),
-        _ => Call::new(Kind::FrameAge, &[station, onboard]),
-    }
+    let (any, at_midnight) = (random.from(1, 86_400), later(86_360, random.below(80)));
+    let onboard = if random.chance(30) { any } else { at_midnight };
+    let numbers = match random.below(6) {
+        0 => [random.number(), random.number()],
+        1 => [random.from(1, 86_400), onboard],
+        2 => [onboard, later(onboard, random.below(40))],
+        _ => [later(onboard, random.below(40)), onboard],
+    };
+    Call::new(Kind::FrameAge, &numbers)
 }

@@ -139,7 +139,10 @@ fn frame_ages() {
     assert_eq!((age.answer, age.age, age.fresh, age.stale, age.recent), (0, 4, false, false, true));
     assert!(clock::frame_age(86_400, 86_370).stale);
     assert!(clock::frame_age(3, 1).fresh);
-    for (station, onboard) in [(10, 11), (0, 0), (86_401, 1)] {
+    for (station, onboard, age) in [(1, 86_399, 1), (1, 86_400, 0), (86_400, 1, 43_199), (1, 2, 43_199), (11, 20, 43_195)] {
+        assert_eq!(clock::frame_age(station, onboard).age, age);
+    }
+    for (station, onboard) in [(0, 0), (0, 1), (1, 0), (86_401, 1), (1, 86_401)] {
         assert_eq!(clock::frame_age(station, onboard).answer, 17);
     }
 }

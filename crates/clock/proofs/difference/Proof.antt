@@ -1,17 +1,15 @@
--- `clock::difference` meets its contract.
-use mathlib.Core.Path.{refl}
+-- `clock::difference` meets its contract, across midnight and else.
 use native.Mathlib.Omega.{arith}
-use Rattle.clock.specs.Age.{difference}
-use Rattle.clock.proofs.Grounds.{not-below}
+use Rattle.clock.proofs.Grounds.{both-frames}
+use Rattle.clock.proofs.Differences.{plain, over-midnight}
 use Rattle.clock.proofs.difference.Statement.{statement}
 use Rattle.clock.proofs.difference.Tie as tie
 
-sub-result : tie.Need-sub-result
-sub-result c = omega (arith, not-below (c .args .station) (c .args .onboard) (c .pre))
-
-returns : tie.Need-returns
-unfolding difference
-returns c = refl
-
 pub difference-spec : {M : Type 1} → statement M
-difference-spec = tie.close (tie.spec sub-result returns)
+difference-spec =
+    tie.close
+    (tie.spec
+    (λ c. omega (arith, both-frames _ _ (c .before .pre) .0 .1))
+    (λ c. let h = both-frames _ _ (c .before .pre) in omega (arith, h .0 .0, h .1 .1))
+    (λ c. let h = both-frames _ _ (c .before .pre) in over-midnight _ _ (h .0) (h .1) (c .if1 .taken))
+    (λ c. let h = both-frames _ _ (c .before .pre) in plain _ _ (h .0) (h .1) (omega (arith, c .if1 .left))))
