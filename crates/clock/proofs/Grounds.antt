@@ -4,7 +4,11 @@ use mathlib.Core.Bool.{true, false}
 use Prim.Native.Nat.{ℕ, _≤_}
 use borrow.Author.Tests.{ltb-false}
 use Rattle.numbers.proofs.Logic.{neither}
-use Rattle.clock.specs.Age.{lastFrame, notAFrame, Frame, ageOf, aged, refused, refuses, frameAge}
+use Rattle.clock.specs.Age.{lastFrame, notAFrame, ageOf, aged, refused, refuses, frameAge}
+
+-- the bounds of a frame's number
+abbrev pub Frame : ℕ → Type 0
+Frame n = (1 ≤ n) × (n ≤ lastFrame)
 
 frame : (n : ℕ) → notAFrame n ≡ false → Frame n
 unfolding notAFrame

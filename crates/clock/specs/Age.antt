@@ -1,6 +1,6 @@
 -- The age of a frame and the conditions that hang on it (document 01, "Frame age"; document 02, T-02).
 use mathlib.Core.Bool.{Bool, cond, _||_}
-use Prim.Native.Nat.{ℕ, _+_, _-_, _/_, _%_, _≤_}
+use Prim.Native.Nat.{ℕ, _+_, _-_, _/_, _%_}
 use lib.Dec.{leb, ltb}
 use Rattle.numbers.specs.Numbers.{oneIf}
 use Rattle.clock.specs.declared.FrameAge.{FrameAge}
@@ -12,10 +12,6 @@ lastFrame = 86_400
 -- ground of refusal: no frame has this number
 unfoldable pub notAFrame : ℕ → Bool
 notAFrame n = ltb n 1 || ltb lastFrame n
-
--- a frame's number
-abbrev pub Frame : ℕ → Type 0
-Frame n = (1 ≤ n) × (n ≤ lastFrame)
 
 -- the number of the frame that comes k frames later
 unfoldable pub later : ℕ → ℕ → ℕ

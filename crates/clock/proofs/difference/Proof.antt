@@ -11,5 +11,5 @@ difference-spec =
     (tie.spec
     (λ c. omega (arith, both-frames _ _ (c .before .pre) .0 .1))
     (λ c. let h = both-frames _ _ (c .before .pre) in omega (arith, h .0 .0, h .1 .1))
-    (λ c. let h = both-frames _ _ (c .before .pre) in over-midnight _ _ (h .0) (h .1) (c .if1 .taken))
-    (λ c. let h = both-frames _ _ (c .before .pre) in plain _ _ (h .0) (h .1) (omega (arith, c .if1 .left))))
+    (λ c. over-midnight _ _ (c .before .pre) (c .if1 .taken))
+    (λ c. plain _ _ (c .before .pre) (omega (arith, c .if1 .left))))
