@@ -6,7 +6,7 @@ use mathlib.Core.Logic.{inr}
 use mathlib.Core.Path.{_≡_, sym, ap, _∙_}
 use native.Mathlib.Omega.{arith}
 use lib.Seq.{set-out}
-use Rattle.rows.specs.Register.{rowOf}
+use Rattle.register.specs.Register.{rowOf}
 use Rattle.rows.specs.Row.{rowBytes}
 use Rattle.rules.specs.Effect.{markFor, marked, change, rowChanged, applied}
 use Rattle.rules.specs.View.{View}

@@ -6,9 +6,7 @@ use kinds::LAST_TICKET;
 use kinds::Loco;
 use kinds::Ticket;
 use kinds::found::Found;
-use rules::deeds;
 use rules::deeds::Deed;
-use rules::raising;
 use rules::refusals;
 use rules::registering;
 use rules::registering::grant;
@@ -61,7 +59,7 @@ pub fn release(s: &[u8], loco: Loco, ticket: Ticket) -> Ruling
 pub fn on(s: &[u8], loco: Loco, ticket: Ticket, deed: Deed, flags: &[u8]) -> Ruling
     ensures { λ r. ⌜ JudgedAlike r (now (s .entry)) (Op.on loco ticket (meant deed (now (flags .entry)))) ⌝ }
 {
-    deeds::on(named::find(s, loco, ticket), deed, flags, view::counter(s))
+    acting::on(named::find(s, loco, ticket), deed, flags, view::counter(s))
 }
 
 // SOS between L2, named first, and L1.
@@ -85,5 +83,5 @@ pub fn sos(
 pub fn end(s: &[u8], loco: Loco, ticket: Ticket) -> Answer
     ensures { λ r. ⌜ r ≡ endJudged (now (s .entry)) loco ticket ⌝ }
 {
-    deeds::end_asked(named::find(s, loco, ticket))
+    acting::end_asked(named::find(s, loco, ticket))
 }

@@ -9,8 +9,8 @@ use lib.ListN.{length, take, drop}
 use Rattle.numbers.specs.Numbers.{numberAt}
 use Rattle.numbers.proofs.NumberLaws.{number-lt}
 use Rattle.replay.specs.Demand3.{depth}
-use Rattle.replay.specs.Ring.{before, readBack}
-use Rattle.replay.proofs.Rings.{before-in, ring-same}
+use Rattle.ring.specs.Ring.{before, readBack}
+use Rattle.ring.proofs.Rings.{before-in, ring-same}
 use Rattle.rows.specs.Row.{rowBytes}
 use Rattle.rules.specs.View.{View}
 use Rattle.store.specs.Layout.{wordBytes, counterAt, keptAt, bookAt, entryOffset}

@@ -6,7 +6,7 @@ use mathlib.Core.Path.{_≡_, ap}
 use native.Mathlib.Omega.{arith}
 use Rattle.numbers.proofs.FieldLaws.{lt-or-le}
 use Rattle.replay.specs.Demand3.{depth}
-use Rattle.replay.specs.Ring.{before, readBack}
+use Rattle.ring.specs.Ring.{before, readBack}
 use Rattle.store.specs.Emptied.{emptied}
 use Rattle.store.specs.Layout.{entryBytes, entryOffset}
 use Rattle.store.specs.Stands.{keptOf, headOf}

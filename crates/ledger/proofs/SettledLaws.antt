@@ -10,8 +10,8 @@ use lib.ListN.{length, take}
 use Rattle.numbers.specs.Numbers.{numberAt}
 use Rattle.numbers.proofs.FieldLaws.{lt-or-le}
 use Rattle.replay.specs.Demand3.{depth}
-use Rattle.replay.specs.Ring.{after, readBack}
-use Rattle.replay.proofs.Rings.{after-in, ring-push}
+use Rattle.ring.specs.Ring.{after, readBack}
+use Rattle.ring.proofs.Rings.{after-in, ring-push}
 use Rattle.rows.specs.Row.{rowBytes, putRow}
 use Rattle.rows.proofs.FitLaws.{Fits}
 use Rattle.rows.proofs.RowLaws.{row-back}

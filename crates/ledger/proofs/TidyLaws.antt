@@ -5,8 +5,8 @@ use mathlib.Core.Logic.{⊎-elim, inl, inr}
 use native.Mathlib.Omega.{arith}
 use Rattle.numbers.proofs.FieldLaws.{lt-or-le}
 use Rattle.replay.specs.Demand3.{depth}
-use Rattle.replay.specs.Ring.{before}
-use Rattle.replay.proofs.Rings.{before-in}
+use Rattle.ring.specs.Ring.{before}
+use Rattle.ring.proofs.Rings.{before-in}
 use Rattle.rows.proofs.FitLaws.{Fits}
 use Rattle.rules.specs.declared.effect.Change.{Change}
 use Rattle.rules.specs.declared.effect.Effect.{Effect}

@@ -3,7 +3,7 @@ use mathlib.Core.Bool.{cond}
 use mathlib.Core.List.{List}
 use Prim.Native.Nat.{ℕ, zero, suc, _-_}
 use Rattle.replay.specs.Demand3.{depth}
-use Rattle.replay.specs.Ring.{before}
+use Rattle.ring.specs.Ring.{before}
 use Rattle.store.specs.Layout.{isSession, entryOffset}
 use Rattle.store.specs.Stands.{counterOf, keptOf, headOf}
 use Rattle.entries.specs.Undone.{entryBack}

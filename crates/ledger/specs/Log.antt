@@ -3,7 +3,7 @@ use mathlib.Core.List.{List}
 use Prim.Native.Nat.{ℕ}
 use Rattle.numbers.specs.Numbers.{putNumber}
 use Rattle.replay.specs.Demand3.{depth}
-use Rattle.replay.specs.Ring.{readBack}
+use Rattle.ring.specs.Ring.{readBack}
 use Rattle.store.specs.Layout.{wordBytes, counterAt, keptAt, headAt, entryOffset}
 use Rattle.store.specs.Stands.{keptOf, headOf}
 use Rattle.kinds.specs.declared.Ticket.{Ticket}

@@ -5,7 +5,7 @@ use mathlib.Core.List.{List}
 use Prim.Native.Nat.{ℕ, suc, min}
 use lib.Dec.{ltb}
 use Rattle.replay.specs.Demand3.{depth}
-use Rattle.replay.specs.Ring.{after}
+use Rattle.ring.specs.Ring.{after}
 use Rattle.rows.specs.Row.{putRow}
 use Rattle.rules.specs.declared.effect.Change.{Change}
 use Rattle.rules.specs.declared.effect.Effect.{Effect}

@@ -14,7 +14,7 @@ fn step_one(s: &mut [u8])
 {
     let counter = view::counter(s);
     let kept = view::kept(s);
-    let head = replay::notch_before(view::head(s));
+    let head = ring::notch_before(view::head(s));
     undone::undo(s, crate::entry_offset(head));
     crate::put_header(s, counter, kept - numbers::at_most(kept, 1), head);
 }

@@ -25,11 +25,11 @@ fn push(
     ensures { λ r. ⌜ (r ≡ canPush (now (s .entry)) start slots i j) × (now (s .exit) ≡ pushedIn (now (s .entry)) counter start slots taken i j) ⌝ }
 {
     let head = view::head(s);
-    let kept = replay::kept_after(view::kept(s));
+    let kept = ring::kept_after(view::kept(s));
     if !kept::keep(s, start, slots, taken, i, j, crate::entry_offset(head)) {
         return false;
     }
-    crate::put_header(s, counter, kept, replay::notch_after(head));
+    crate::put_header(s, counter, kept, ring::notch_after(head));
     true
 }
 

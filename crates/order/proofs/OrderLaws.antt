@@ -27,7 +27,7 @@ use Rattle.rules.specs.Rules.{Op, groundOf, doneBy}
 use Rattle.rules.specs.Slots.{mostSlots, slotOf, slotsFor}
 use Rattle.rules.specs.View.{View, rowIn, markOf, isTaken}
 use Rattle.rules.specs.declared.settings.Settings.{Settings}
-use Rattle.sos.specs.Grids.{measureOf}
+use Rattle.grids.specs.Cells.{measureOf}
 use Rattle.order.specs.InOrder.{leftFits, TicketFits, OrdersFit, RunFits, TrainFits, ShareLoco, ShareTicket, Holder, InOrder, startView}
 use Rattle.order.specs.Sound.{Live, InBook, InRun, Has, Sound}
 use Rattle.order.proofs.AfterLaws.{after-op, withGrant, withSos}

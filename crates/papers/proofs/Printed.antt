@@ -17,8 +17,8 @@ use Rattle.trains.specs.Orders.{standsUnder, placeUnder, room, setAt}
 use Rattle.trains.specs.Changes.{leftFor}
 use Rattle.trains.specs.Authority.{nearer, nearest, limitStop, orderStop, dangerStop, orderStops, endWith}
 use Rattle.trains.specs.Sought.{holdsLoco, isSought}
-use Rattle.sos.specs.Classes.{among, classOf}
-use Rattle.sos.specs.Grids.{cellOf}
+use Rattle.grids.specs.Classes.{among, classOf}
+use Rattle.grids.specs.Cells.{cellOf}
 use Rattle.sos.specs.Shares.{behind, shareOfL1, shareBehind}
 use Rattle.rules.specs.Deeds.{endAnswer, changedIf, stepTaken, modeStepped, done, endAsked}
 use Rattle.rules.specs.Effect.{markFor, slotMarked, marked, applied}

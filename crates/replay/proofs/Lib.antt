@@ -1,4 +1,3 @@
-pub mod Rings
 pub mod Ways
 pub mod Views
 pub mod Tickets

@@ -4,4 +4,3 @@ pub mod Machine
 pub mod Kept
 pub mod Played
 pub mod Always
-pub mod Ring

@@ -1,4 +1,3 @@
 pub mod Bytewise
 pub mod FitLaws
 pub mod RowLaws
-pub mod RegisterLaws

@@ -1,3 +1,2 @@
-// The train record as a row of bytes, and the register of 24 rows.
-pub mod register;
+// The train record as a row of bytes.
 pub mod row;

@@ -2,8 +2,9 @@
 use mathlib.Core.Bool.{Bool, false, not, _||_}
 use Prim.Native.Nat.{ℕ}
 use lib.Dec.{eqb}
-use Rattle.sos.specs.{Classes.classOf, Shares.shareOfL1, Shares.shareOfL2}
-use Rattle.sos.specs.Grids.{NA, cellOf, measureOf, aspectOf}
+use Rattle.sos.specs.{Shares.shareOfL1, Shares.shareOfL2}
+use Rattle.grids.specs.{Classes.classOf}
+use Rattle.grids.specs.Cells.{NA, cellOf, measureOf, aspectOf}
 use Rattle.sos.specs.declared.shares.Share.{Share, the-variants.Nothing, the-variants.NoPosition, the-variants.Order}
 use Rattle.kinds.specs.{Kinds.locoInRange, Ranges.isGrid}
 use Rattle.trains.specs.{Orders.hasPlace, Orders.withOrder}

@@ -29,7 +29,7 @@ impl Named {
 }
 
 // What is answered where a train is named: the refusal of its name, or else the answer itself.
-pub(crate) fn answer(loco: Loco, live: bool, answer: Answer) -> Answer
+pub fn answer(loco: Loco, live: bool, answer: Answer) -> Answer
     ensures { λ r. ⌜ r ≡ nameAnswer loco live answer ⌝ }
 {
     if !loco.in_range() {

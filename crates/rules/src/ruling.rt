@@ -51,7 +51,7 @@ impl Answer {
 
 impl Ruling {
     // A run of slots taken, or freed; a train in its row, and in one more.
-    pub(crate) fn of(
+    pub fn of(
         answer: Answer,
         counter: Ticket,
         start: Slot,
@@ -90,7 +90,7 @@ impl Ruling {
     }
 
     // Refused where the answer is; else one row is changed, and slots are freed.
-    pub(crate) fn answered(
+    pub fn answered(
         answer: Answer,
         counter: Ticket,
         start: Slot,

@@ -29,7 +29,7 @@ use Rattle.rules.specs.Slots.{slotsFor}
 use Rattle.rules.specs.View.{View, rowIn}
 use Rattle.rules.specs.declared.named.Named.{Named}
 use Rattle.rules.specs.declared.settings.Settings.{Settings}
-use Rattle.sos.specs.Grids.{measureOf}
+use Rattle.grids.specs.Cells.{measureOf}
 use Rattle.order.proofs.Facts.{runFor, requests, Names, names, raises}
 use Rattle.order.proofs.SoundLaws.{rows-within}
 use Rattle.ledger.proofs.SettledLaws.{EffectFits}

@@ -1,3 +1,1 @@
-pub mod Classes
-pub mod Grids
 pub mod Shares

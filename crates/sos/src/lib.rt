@@ -1,4 +1,2 @@
-// The SOS between two trains: the row class of each, the grids' cells, and what a cell's measure gives to either.
-pub mod classes;
-pub mod grids;
+// The SOS between two trains: what a measure gives to either.
 pub mod shares;

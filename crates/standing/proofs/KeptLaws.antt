@@ -15,7 +15,7 @@ use Rattle.replay.specs.Demand3.{Call, op, back, Answer as Words, took, wentBac
 use Rattle.replay.specs.Demand3.{opAnswer, backAnswer as backWords}
 use Rattle.replay.specs.Machine.{acted, undoAll, undone as wound, step}
 use Rattle.replay.specs.Kept.{Steps, Kept}
-use Rattle.replay.proofs.Rings.{length-readBack}
+use Rattle.ring.proofs.Rings.{length-readBack}
 use Rattle.kinds.specs.declared.Ticket.{Ticket}
 use Rattle.rules.specs.Effect.{applied}
 use Rattle.rules.specs.Refusals.{tooFarBack}

@@ -8,7 +8,7 @@ use native.Mathlib.Omega.{arith}
 use lib.ListN.{length, getD, set, length-set}
 use lib.Seq.{ext-getD, getD-set-same, getD-set-other}
 use Rattle.numbers.proofs.FieldLaws.{lt-or-le}
-use Rattle.rows.specs.Register.{rowOf}
+use Rattle.register.specs.Register.{rowOf}
 use Rattle.trains.specs.Sought.{rowCount}
 use Rattle.rows.specs.Row.{rowBytes}
 use Rattle.kinds.specs.Kinds.{lastSlot}

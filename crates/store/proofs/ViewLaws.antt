@@ -7,7 +7,7 @@ use native.Mathlib.Omega.{arith}
 use lib.ListN.{length, getD, List·getD-eq-default}
 use Rattle.replay.specs.Demand3.{depth}
 use Rattle.trains.specs.declared.sought.Sought.{Sought}
-use Rattle.rows.specs.Register.{rowOf, soughtAt, foundIn}
+use Rattle.register.specs.Register.{rowOf, soughtAt, foundIn}
 use Rattle.trains.specs.Sought.{rowCount, isSought}
 use Rattle.rows.specs.Row.{rowBytes}
 use Rattle.rows.proofs.FitLaws.{Fits, fits-read}

@@ -5,7 +5,7 @@ use Prim.Native.Nat.{ℕ, zero, suc, _%_, min}
 use lib.ListN.{take, drop}
 use Rattle.numbers.specs.Numbers.{numberAt}
 use Rattle.replay.specs.Demand3.{depth}
-use Rattle.rows.specs.Register.{rowOf}
+use Rattle.register.specs.Register.{rowOf}
 use Rattle.rules.specs.View.{View}
 use Rattle.kinds.specs.Kinds.{lastSlot}
 use Rattle.trains.specs.Sought.{rowCount}

@@ -36,7 +36,7 @@ pub const ALSO: usize = CHANGED + 1 + row::ROW;
 pub const ENTRY: usize = ALSO + 1 + row::ROW;
 
 // The bytes of a session.
-pub const SESSION: usize = LOG + ENTRY * replay::DEPTH;
+pub const SESSION: usize = LOG + ENTRY * ring::DEPTH;
 
 // Are there as many bytes as a session has?
 pub fn is_session(s: &[u8]) -> bool

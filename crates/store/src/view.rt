@@ -5,7 +5,6 @@ use kinds::Loco;
 use kinds::Slot;
 use kinds::Ticket;
 use kinds::found::Found;
-use rows::register;
 use rows::row;
 use trains::record::Train;
 use trains::sought::ROWS;
@@ -26,14 +25,14 @@ pub fn kept(s: &[u8]) -> usize
     ensures { λ r. ⌜ r ≡ keptOf (now (s .entry)) ⌝ }
 {
     let n = numbers::word_at(s, layout::KEPT) as usize;
-    if n < replay::DEPTH { n } else { replay::DEPTH }
+    if n < ring::DEPTH { n } else { ring::DEPTH }
 }
 
 // The notch of the ring that the next entry goes to.
 pub fn head(s: &[u8]) -> usize
     ensures { λ r. ⌜ r ≡ headOf (now (s .entry)) ⌝ }
 {
-    numbers::word_at(s, layout::HEAD) as usize % replay::DEPTH
+    numbers::word_at(s, layout::HEAD) as usize % ring::DEPTH
 }
 
 // The train in row i, counted from 0; a row past the register reads as blank.

@@ -1,14 +1,13 @@
 // Prints the row class of each mode and mode left, each cell, what each measure gives to L1 and L2, ends of authority, a train's
 // orders, and a register's searches. A line is what was asked and the answer.
+use grids::cells;
+use grids::classes;
 use kinds::Loco;
 use kinds::Slot;
 use kinds::Ticket;
 use kinds::found::Found;
 use kinds::ranges::Location;
-use rows::register;
 use rows::row;
-use sos::classes;
-use sos::grids;
 use sos::shares;
 use sos::shares::Share;
 use trains::record::Limit;
@@ -50,12 +49,12 @@ fn all_classes() {
 }
 
 fn cell_line(grid: u32, class: u32) {
-    let cell = grids::cell(grid, class);
+    let cell = cells::cell(grid, class);
     text(b"cell");
     number(grid);
     number(class);
-    number(grids::measure(cell));
-    number(grids::aspect(cell));
+    number(cells::measure(cell));
+    number(cells::aspect(cell));
     end_line();
 }
 

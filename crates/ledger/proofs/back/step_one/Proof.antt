@@ -5,8 +5,8 @@ use native.Mathlib.Omega.{arith}
 use borrow.Author.Tests.{eq-eqb}
 use lib.ListN.{length}
 use Rattle.replay.specs.Demand3.{depth}
-use Rattle.replay.specs.Ring.{before}
-use Rattle.replay.proofs.Rings.{before-in}
+use Rattle.ring.specs.Ring.{before}
+use Rattle.ring.proofs.Rings.{before-in}
 use Rattle.store.specs.Layout.{entryOffset, sessionBytes}
 use Rattle.store.specs.Stands.{keptOf, headOf}
 use Rattle.store.proofs.ViewLaws.{head-in}

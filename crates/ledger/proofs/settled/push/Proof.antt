@@ -5,8 +5,8 @@ use Prim.Native.Nat.{ℕ, suc, min}
 use native.Mathlib.Omega.{arith}
 use borrow.Author.Tests.{not-true, not-false}
 use Rattle.replay.specs.Demand3.{depth}
-use Rattle.replay.specs.Ring.{after}
-use Rattle.replay.proofs.Rings.{after-in}
+use Rattle.ring.specs.Ring.{after}
+use Rattle.ring.proofs.Rings.{after-in}
 use Rattle.store.specs.Layout.{entryOffset}
 use Rattle.store.specs.Stands.{headOf}
 use Rattle.store.proofs.ViewLaws.{head-in}
