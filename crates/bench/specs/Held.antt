@@ -1,16 +1,10 @@
 -- What is held of the recording: a stretch of a buffer.
-use mathlib.Core.Bool.{Bool, true, false, _||_}
-use mathlib.Core.List.{List, [], _++_}
-use mathlib.Core.Path.{_≡_}
+use mathlib.Core.{Bool.Bool, Bool.true, Bool.false, Bool._||_, List.List, List.[], List._++_, Path._≡_}
 use Prim.Native.Nat.{ℕ, _+_, _-_, _≤_, min}
-use lib.Dec.{eqb, ltb}
-use lib.IntN.{ℤ, pos}
-use lib.ListN.{length, take, drop}
-use lib.Signed.{ltZ}
+use lib.{Dec.eqb, Dec.ltb, IntN.ℤ, IntN.pos, ListN.length, ListN.take, ListN.drop, Signed.ltZ}
 use Rattle.io.specs.Counts.{clamped}
 use Rattle.records.specs.Form.{longest}
-use Rattle.bench.specs.declared.held.Got.{Got}
-use Rattle.bench.specs.declared.held.Held.{Held}
+use Rattle.bench.specs.{declared.held.Got.Got, declared.held.Held.Held}
 
 -- the bytes of a buffer from one offset up to another
 unfoldable pub stretch : List ℕ → ℕ → ℕ → List ℕ

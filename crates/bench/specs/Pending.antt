@@ -1,7 +1,5 @@
 -- What is still to be written of the listing: the first bytes of a buffer.
-use mathlib.Core.Bool.{true}
-use mathlib.Core.List.{List, _++_}
-use mathlib.Core.Path.{_≡_}
+use mathlib.Core.{Bool.true, List.List, List._++_, Path._≡_}
 use Prim.Native.Nat.{ℕ, _+_, _≤_}
 use lib.ListN.{length, take}
 use Rattle.lines.specs.Line.{room}

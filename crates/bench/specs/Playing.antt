@@ -1,20 +1,13 @@
 -- A PLAY, turn by turn: what a turn reads, runs, puts and hands to the system, and what the turns of a play come to.
-use mathlib.Core.Bool.{Bool, true, false, not, cond, _&&_}
-use mathlib.Core.List.{List, [], _++_}
-use mathlib.Core.Path.{_≡_}
+use mathlib.Core.{Bool.Bool, Bool.true, Bool.false, Bool.not, Bool.cond, Bool._&&_, List.List, List.[], List._++_, Path._≡_}
 use Prim.Native.Nat.{ℕ, _+_, _≤_}
 use lib.ListN.{length}
-use Rattle.lines.specs.Line.{room}
-use Rattle.lines.specs.Text.{runLine, endLine}
-use Rattle.records.specs.Form.{mostRecords}
-use Rattle.records.specs.declared.told.Ran.{Ran}
-use Rattle.turns.specs.Placing.{putAt}
-use Rattle.turns.specs.Turns.{textOf, oneIfAccepted, isLast}
+use Rattle.lines.specs.{Line.room, Text.runLine, Text.endLine}
+use Rattle.records.specs.{Form.mostRecords, declared.told.Ran.Ran}
+use Rattle.turns.specs.{Placing.putAt, Turns.textOf, Turns.oneIfAccepted, Turns.isLast}
 use Rattle.recording.specs.Running.{ranRecord, bytesAfterRecord}
 use Rattle.listing.specs.Listing.{listing}
-use Rattle.bench.specs.declared.Play.{Play}
-use Rattle.bench.specs.declared.held.Held.{Held}
-use Rattle.bench.specs.declared.pending.Pending.{Pending}
+use Rattle.bench.specs.{declared.Play.Play, declared.held.Held.Held, declared.pending.Pending.Pending}
 use Rattle.bench.specs.Held.{heldBytes, nothingHeld, behindBy, isEnd, IsReady}
 use Rattle.bench.specs.Pending.{pendingBytes, nothingPending, withMore, HasRoom}
 

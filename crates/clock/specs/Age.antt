@@ -5,8 +5,7 @@ use lib.Dec.{leb, ltb}
 use Rattle.numbers.specs.Numbers.{oneIf}
 use Rattle.clock.specs.declared.FrameAge.{FrameAge}
 
--- the frames of a day are numbered from 1 to this one, and 1 comes again after it
-abbrev pub lastFrame : ℕ
+abbrev pub lastFrame : ℕ  -- the frames of a day are numbered from 1 to this one, and 1 comes again after it
 lastFrame = 86_400
 
 -- ground of refusal: no frame has this number
@@ -48,8 +47,7 @@ aged age =
       condition27 = oneIf (condition27 age);
     }
 
--- the answer's number where it is refused
-abbrev pub outOfRange : ℕ
+abbrev pub outOfRange : ℕ  -- the answer's number where it is refused
 outOfRange = 17
 
 -- a refusal has zeros for its numbers

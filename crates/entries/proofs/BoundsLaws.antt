@@ -8,12 +8,20 @@ use lib.ListN.{length}
 use borrow.Author.Tests.{eqb-true, ltb-true, leb-true}
 use Rattle.numbers.proofs.Logic.{both}
 use Rattle.replay.specs.Demand3.{depth}
+use Rattle.rules.specs.declared.effect.Effect.{Effect}
 use Rattle.store.specs.Layout.{entryBytes, sessionBytes}
 use Rattle.trains.specs.Sought.{rowCount}
 use Rattle.kinds.specs.declared.Slot.{Slot}
 use Rattle.entries.specs.Entry.{hasEntry}
 use Rattle.entries.specs.Kept.{canKeep, entryKept, keptIn}
 use Rattle.entries.specs.Undone.{entryBack, undoneIn}
+
+-- one row changes, and perhaps another; the run's start and slots are bytes
+pub record InBounds (e : Effect) : Type 0 where
+  pub changed : e .changed .row < rowCount
+  pub also : e .also .row ≤ rowCount
+  pub start : e .start .0 < 256
+  pub slots : e .slots < 256
 
 -- a session, with all of the entry
 pub entry-there : (s : List ℕ) (at : ℕ) → hasEntry s at ≡ true → (length s ≡ sessionBytes) × (at + entryBytes ≤ sessionBytes)

@@ -24,7 +24,8 @@ use Rattle.trains.specs.Sought.{rowCount}
 use Rattle.kinds.specs.declared.Slot.{Slot}
 use Rattle.entries.specs.Copied.{rowCopied}
 use Rattle.entries.specs.Entry.{rowNow, saved, takenAt, changeAt, entryAt}
-use Rattle.entries.specs.Kept.{InBounds, runKept, rowKept, entryKept}
+use Rattle.entries.specs.Kept.{runKept, rowKept, entryKept}
+use Rattle.entries.proofs.BoundsLaws.{InBounds}
 use Rattle.entries.proofs.CopyLaws.{copied-changes, copied-row, row-copied, row-passed}
 use Rattle.entries.proofs.MarkLaws.{mark-small}
 use Rattle.entries.proofs.ThreeLaws.{number-back, threePut, three-changes, first-back, second-back, third-back}

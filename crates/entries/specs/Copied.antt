@@ -1,10 +1,7 @@
 -- A row copied from one offset to another.
-use mathlib.Core.Bool.{cond}
-use mathlib.Core.List.{List}
+use mathlib.Core.{Bool.cond, List.List}
 use Prim.Native.Nat.{ℕ}
-use lib.Dec.{ltb}
-use lib.ListN.{take, drop}
-use lib.Seq.{sets}
+use lib.{Dec.ltb, ListN.take, ListN.drop, Seq.sets}
 use Rattle.rows.specs.Row.{rowBytes}
 use Rattle.trains.specs.Sought.{rowCount}
 

@@ -1,20 +1,15 @@
 -- An entry of the log: what it keeps before an operation, how it is undone, and the entry in a session's bytes. It is itself an effect, the
 -- one that undoes the operation: the run of slots with its mark before, and the rows as they were.
-use mathlib.Core.Bool.{Bool, true, cond, not, _&&_}
-use mathlib.Core.List.{List}
-use mathlib.Core.Path.{_≡_}
+use mathlib.Core.{Bool.Bool, Bool.true, Bool.cond, Bool.not, Bool._&&_, List.List, Path._≡_}
 use Prim.Native.Nat.{ℕ, _+_, _-_, _≤_, _<_}
 use lib.Dec.{eqb, leb, ltb}
 use Rattle.numbers.specs.Numbers.{numberAt}
 use Rattle.rows.specs.Row.{rowAt}
-use Rattle.rules.specs.Effect.{markFor, change, noChange, applied}
-use Rattle.rules.specs.View.{View, rowIn, markOf}
-use Rattle.rules.specs.declared.effect.Change.{Change}
-use Rattle.rules.specs.declared.effect.Effect.{Effect}
+use Rattle.rules.specs.{Effect.markFor, Effect.change, Effect.noChange, Effect.applied, View.View, View.rowIn, View.markOf}
+use Rattle.rules.specs.{declared.effect.Change.Change, declared.effect.Effect.Effect}
 use Rattle.store.specs.Layout.{isSession, entryBytes, sessionBytes, slotsAt, markAt, changedAt, alsoAt}
-use Rattle.kinds.specs.Kinds.{slotInRange}
+use Rattle.kinds.specs.{Kinds.slotInRange, declared.Slot.Slot}
 use Rattle.trains.specs.Sought.{rowCount}
-use Rattle.kinds.specs.declared.Slot.{Slot}
 
 -- what an entry keeps: a run of slots and whether it was taken, a row as it was, and a second one where there is one
 abbrev pub Entry : Type 0

@@ -1,31 +1,21 @@
 -- What undoes an effect, kept in the bytes before the effect is put.
-use mathlib.Core.Bool.{Bool, cond, not, _&&_}
-use mathlib.Core.List.{List}
-use Prim.Native.Nat.{ℕ, _+_, _<_, _≤_}
+use mathlib.Core.{Bool.Bool, Bool.cond, Bool.not, Bool._&&_, List.List}
+use Prim.Native.Nat.{ℕ, _+_}
 use lib.Dec.{leb, ltb}
 use Rattle.numbers.specs.Numbers.{putNumber}
-use Rattle.rules.specs.Effect.{markFor}
-use Rattle.rules.specs.declared.effect.Effect.{Effect}
+use Rattle.rules.specs.{Effect.markFor, declared.effect.Effect.Effect}
 use Rattle.store.specs.Layout.{rowOffset, slotsAt, markAt, changedAt, alsoAt}
 use Rattle.trains.specs.Sought.{rowCount}
 use Rattle.kinds.specs.declared.Slot.{Slot}
-use Rattle.entries.specs.Copied.{rowCopied}
-use Rattle.entries.specs.Entry.{hasEntry}
+use Rattle.entries.specs.{Copied.rowCopied, Entry.hasEntry}
 
 -- ---- effects that an entry can undo
-
--- one row changes, and perhaps another; the run's start and slots are bytes
-pub record InBounds (e : Effect) : Type 0 where
-  pub changed : e .changed .row < rowCount
-  pub also : e .also .row ≤ rowCount
-  pub start : e .start .0 < 256
-  pub slots : e .slots < 256
 
 -- an entry can keep a run and rows i and j
 abbrev pub canKeep : Slot → ℕ → ℕ → ℕ → Bool
 canKeep start slots i j = ((ltb i rowCount && leb j rowCount) && ltb (start .0) 256) && ltb slots 256
 
--- the same as a test: an entry can keep what undoes the effect
+-- an entry can keep what undoes an effect
 abbrev pub inBounds : Effect → Bool
 inBounds e = canKeep (e .start) (e .slots) (e .changed .row) (e .also .row)
 

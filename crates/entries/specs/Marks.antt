@@ -1,13 +1,10 @@
 -- Slots marked in a session's book.
-use mathlib.Core.Bool.{Bool, cond}
-use mathlib.Core.List.{List}
+use mathlib.Core.{Bool.Bool, Bool.cond, List.List}
 use Prim.Native.Nat.{ℕ, zero, suc, _+_, _-_}
 use Rattle.numbers.specs.Numbers.{putNumber}
 use Rattle.rules.specs.Effect.{markFor}
 use Rattle.store.specs.Layout.{bookAt}
-use Rattle.kinds.specs.Kinds.{lastSlot}
-use Rattle.kinds.specs.Ranges.{oneTo}
-use Rattle.kinds.specs.declared.Slot.{Slot}
+use Rattle.kinds.specs.{Kinds.lastSlot, Ranges.oneTo, declared.Slot.Slot}
 
 -- a slot marked; one that is none of the book's marks nothing
 unfoldable pub slotPut : List ℕ → ℕ → ℕ → List ℕ

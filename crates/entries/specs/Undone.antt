@@ -1,12 +1,9 @@
 -- An entry undone in the bytes.
-use mathlib.Core.Bool.{cond}
-use mathlib.Core.List.{List}
+use mathlib.Core.{Bool.cond, List.List}
 use Prim.Native.Nat.{ℕ, _+_}
 use Rattle.numbers.specs.Numbers.{numberAt}
 use Rattle.store.specs.Layout.{rowOffset, slotsAt, changedAt, alsoAt}
-use Rattle.entries.specs.Copied.{rowCopied}
-use Rattle.entries.specs.Entry.{hasEntry, takenAt}
-use Rattle.entries.specs.Marks.{runMarked}
+use Rattle.entries.specs.{Copied.rowCopied, Entry.hasEntry, Entry.takenAt, Marks.runMarked}
 
 -- the run of the entry that starts at a byte marked as it was
 unfoldable pub runBack : List ℕ → ℕ → List ℕ

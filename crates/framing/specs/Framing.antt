@@ -1,8 +1,7 @@
 -- What a sub-packet's header says, and the refusal that a stretch of bytes gets.
 use Prim.Native.Nat.{ℕ}
 use mathlib.Core.List.{List}
-use lib.ListN.{length, take}
-use lib.Dec.{ltb}
+use lib.{ListN.length, ListN.take, Dec.ltb}
 use Rattle.numbers.specs.Fields.{field}
 use Rattle.framing.specs.Refusals.{tooShort, wrongType, lengthTooSmall, cutOff, refuse, orElse, unlessRefused}
 
@@ -22,8 +21,7 @@ headRefusal s low high =
     (orElse (refuse (ltb high (typeOf s)) wrongType)
     (orElse (refuse (ltb (lengthOf s) 2) lengthTooSmall) (refuse (ltb (length s) (lengthOf s)) cutOff))))
 
--- types 0 to 7 exist
-abbrev pub lastType : ℕ
+abbrev pub lastType : ℕ  -- types 0 to 7 exist
 lastType = 7
 
 -- the refusal of the first sub-packet of s

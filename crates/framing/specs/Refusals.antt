@@ -3,48 +3,37 @@
 use Prim.Native.Nat.{ℕ, zero, suc}
 use mathlib.Core.Bool.{Bool, true, false}
 
--- fewer than 2 bytes
-abbrev pub tooShort : ℕ
+abbrev pub tooShort : ℕ  -- fewer than 2 bytes
 tooShort = 1
 
--- a type that does not exist, or not the one asked for
-abbrev pub wrongType : ℕ
+abbrev pub wrongType : ℕ  -- a type that does not exist, or not the one asked for
 wrongType = 2
 
--- a length below 2
-abbrev pub lengthTooSmall : ℕ
+abbrev pub lengthTooSmall : ℕ  -- a length below 2
 lengthTooSmall = 3
 
--- fewer bytes than the length says
-abbrev pub cutOff : ℕ
+abbrev pub cutOff : ℕ  -- fewer bytes than the length says
 cutOff = 1
 
--- a length that is not the one for the count of gates
-abbrev pub lengthNotForCount : ℕ
+abbrev pub lengthNotForCount : ℕ  -- a length that is not the one for the count of gates
 lengthNotForCount = 3
 
--- a gate's field whose value is not allowed
-abbrev pub notAllowed : ℕ
+abbrev pub notAllowed : ℕ  -- a gate's field whose value is not allowed
 notAllowed = 4
 
--- padding that is not zero
-abbrev pub paddingSet : ℕ
+abbrev pub paddingSet : ℕ  -- padding that is not zero
 paddingSet = 5
 
--- gates outside a sub-packet that are not 9 bytes each
-abbrev pub notWholeGates : ℕ
+abbrev pub notWholeGates : ℕ  -- gates outside a sub-packet that are not 9 bytes each
 notWholeGates = 3
 
--- more gates than a sub-packet may have
-abbrev pub tooManyGates : ℕ
+abbrev pub tooManyGates : ℕ  -- more gates than a sub-packet may have
 tooManyGates = 3
 
--- a value too large for its field's width
-abbrev pub tooWide : ℕ
+abbrev pub tooWide : ℕ  -- a value too large for its field's width
 tooWide = 4
 
--- an output too small
-abbrev pub noRoom : ℕ
+abbrev pub noRoom : ℕ  -- an output too small
 noRoom = 1
 
 -- the ground n where the test holds

@@ -1,11 +1,8 @@
 -- A gate sub-packet read: the first sub-packet of s, into a buffer that held o.
 use Prim.Native.Nat.{ℕ, _*_}
-use mathlib.Core.List.{List, _++_}
-use mathlib.Core.Bool.{not}
-use lib.ListN.{length, drop}
-use lib.Dec.{ltb, eqb}
-use Rattle.numbers.specs.Fields.{field}
-use Rattle.numbers.specs.Pieces.{times, unpack}
+use mathlib.Core.{List.List, List._++_, Bool.not}
+use lib.{ListN.length, ListN.drop, Dec.ltb, Dec.eqb}
+use Rattle.numbers.specs.{Fields.field, Pieces.times, Pieces.unpack}
 use Rattle.framing.specs.Refusals.{lengthNotForCount, paddingSet, noRoom, refuse, orElse, unlessRefused}
 use Rattle.framing.specs.Framing.{lengthOf, headRefusal}
 use Rattle.gates.specs.Gates.{gateType, distanceWidth, gateBytes, gateWidths, countOf, bitsOf, sizeOf, paddingBits, rulesRefusal, refusedWith, acceptedWith}

@@ -1,15 +1,13 @@
 -- Gates written as a sub-packet: `list` is the gates outside, 9 bytes for each, and o what the output held.
 use Prim.Native.Nat.{ℕ, _/_, _%_, _^_}
 use mathlib.Core.List.{List, [], _∷_, _++_}
-use lib.ListN.{length, getD, drop}
-use lib.Dec.{ltb, leb}
+use lib.{ListN.length, ListN.getD, ListN.drop, Dec.ltb, Dec.leb}
 use Rattle.numbers.specs.Pieces.{times, pack}
 use Rattle.framing.specs.Refusals.{notWholeGates, tooManyGates, tooWide, noRoom, refuse, orElse, unlessRefused}
 use Rattle.gates.specs.Gates.{gateType, distanceWidth, gateBytes, gateWidths, sizeOf, paddingBits, rulesRefusal, refusedWith, acceptedWith}
 use Rattle.gates.specs.declared.GatesAnswer.{GatesAnswer}
 
--- the most gates that are written
-abbrev pub mostGates : ℕ
+abbrev pub mostGates : ℕ  -- the most gates that are written
 mostGates = 28
 
 -- the gates of a list

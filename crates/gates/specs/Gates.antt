@@ -1,22 +1,18 @@
 -- Gates: their fields inside a sub-packet, their bytes outside it, and what is allowed. `distance` is the width of a gate's distance.
 use Prim.Native.Nat.{ℕ, zero, suc, _+_, _-_, _*_, _/_}
 use mathlib.Core.List.{List, [], _∷_}
-use lib.ListN.{getD, drop}
-use lib.Dec.{ltb}
+use lib.{ListN.getD, ListN.drop, Dec.ltb}
 use Rattle.numbers.specs.Fields.{field}
 use Rattle.framing.specs.Refusals.{notAllowed, refuse, orElse}
 use Rattle.gates.specs.declared.GatesAnswer.{GatesAnswer}
 
--- the type of a gate sub-packet
-abbrev pub gateType : ℕ
+abbrev pub gateType : ℕ  -- the type of a gate sub-packet
 gateType = 3
 
--- the width of the distance in the sub-packets that the bench reads and writes
-abbrev pub distanceWidth : ℕ
+abbrev pub distanceWidth : ℕ  -- the width of the distance in the sub-packets that the bench reads and writes
 distanceWidth = 15
 
--- the bytes of a gate outside a sub-packet
-abbrev pub gateBytes : ℕ
+abbrev pub gateBytes : ℕ  -- the bytes of a gate outside a sub-packet
 gateBytes = 9
 
 -- the pieces of a gate: distance (its high bits, and 8), number (2 and 8), suffix, manning, class, whistling, whistling type.
@@ -44,8 +40,7 @@ sizeOf distance n = (bitsOf distance n + 7) / 8
 abbrev pub paddingBits : ℕ → ℕ → ℕ
 paddingBits distance n = 8 * sizeOf distance n - bitsOf distance n
 
--- the highest number, suffix, class and whistling type that are allowed
-abbrev pub lastNumber : ℕ
+abbrev pub lastNumber : ℕ  -- the highest number, suffix, class and whistling type that are allowed
 lastNumber = 1022
 
 abbrev pub lastSuffix : ℕ

@@ -1,16 +1,13 @@
 -- The four SOS grids: the cell by L2's row class, 1 to 9, its measure M and its aspect S. No S printed means S1.
-use mathlib.Core.List.{List, [], _∷_}
-use mathlib.Core.Bool.{cond, _&&_}
+use mathlib.Core.{List.List, List.[], List._∷_, Bool.cond, Bool._&&_}
 use Prim.Native.Nat.{ℕ, _+_, _-_, _*_, _/_, _%_}
 use lib.ListN.{getD}
 use Rattle.kinds.specs.Ranges.{oneTo, isGrid}
 
--- there are nine row classes
-abbrev pub classCount : ℕ
+abbrev pub classCount : ℕ  -- there are nine row classes
 classCount = 9
 
--- a cell that gives nothing
-abbrev pub NA : ℕ
+abbrev pub NA : ℕ  -- a cell that gives nothing
 NA = 0
 
 -- a cell as a number

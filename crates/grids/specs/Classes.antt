@@ -1,6 +1,5 @@
 -- The row classes of the SOS grids: 1 SR, 2 LS, 3 OS, 4 FS, 5 OS+OV, 6 FS+OV, 7 TR, 8 PT, 9 PT+OV.
-use mathlib.Core.Bool.{cond}
-use mathlib.Core.List.{List, [], _∷_}
+use mathlib.Core.{Bool.cond, List.List, List.[], List._∷_}
 use Prim.Native.Nat.{ℕ}
 use lib.Dec.{eqb}
 use Rattle.transitions.specs.Names.{SB, SR, LS, FS, OV, OS, TR, PT}

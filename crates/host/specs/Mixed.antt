@@ -1,6 +1,5 @@
 -- What a host does to a session: operations called one by one, and records run, mixed in any order.
-use mathlib.Core.Bool.{cond}
-use mathlib.Core.List.{List, [], _∷_}
+use mathlib.Core.{Bool.cond, List.List, List.[], List._∷_}
 use Prim.Native.Nat.{ℕ}
 use Rattle.replay.specs.Demand3.{Call}
 use Rattle.rules.specs.Rules.{Op}

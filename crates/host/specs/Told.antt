@@ -1,26 +1,15 @@
 -- What a session tells of itself in numbers, and that bytes of another length tell nothing.
-use mathlib.Core.Bool.{cond}
-use mathlib.Core.List.{List, [], _∷_}
+use mathlib.Core.{Bool.cond, List.List, List.[], List._∷_}
 use Prim.Native.Nat.{ℕ}
-use Rattle.kinds.specs.Ranges.{none}
-use Rattle.trains.specs.Record.{orderAt}
-use Rattle.trains.specs.declared.record.Limit.{Limit}
-use Rattle.trains.specs.declared.record.Limit.the-variants.{Bare, To}
-use Rattle.trains.specs.declared.record.Order.{Order}
-use Rattle.kinds.specs.declared.ranges.Location.{Location}
+use Rattle.kinds.specs.{Ranges.none, declared.ranges.Location.Location}
 use Rattle.kinds.specs.declared.ranges.Location.the-variants.{Nowhere, At}
-use Rattle.trains.specs.declared.record.Position.{Position}
-use Rattle.trains.specs.declared.record.Position.the-variants.{Unknown, Between}
-use Rattle.trains.specs.declared.record.Train.{Train}
-use Rattle.rules.specs.Refusals.{wrongLength}
-use Rattle.rules.specs.Ruling.{acceptedWith}
-use Rattle.rules.specs.View.{rowIn}
-use Rattle.rules.specs.declared.ruling.Answer.{Answer}
-use Rattle.store.specs.Layout.{isSession}
-use Rattle.store.specs.Stands.{viewOf}
+use Rattle.trains.specs.{Record.orderAt, declared.record.Limit.Limit, declared.record.Limit.the-variants.Bare, declared.record.Limit.the-variants.To}
+use Rattle.trains.specs.{declared.record.Order.Order, declared.record.Position.Position}
+use Rattle.trains.specs.{declared.record.Position.the-variants.Unknown, declared.record.Position.the-variants.Between, declared.record.Train.Train}
+use Rattle.rules.specs.{Refusals.wrongLength, Ruling.acceptedWith, View.rowIn, declared.ruling.Answer.Answer}
+use Rattle.store.specs.{Layout.isSession, Stands.viewOf}
 use Rattle.stepback.specs.Back.{ofSession}
-use Rattle.host.specs.declared.told.OrderTold.{OrderTold}
-use Rattle.host.specs.declared.told.TrainAnswer.{TrainAnswer}
+use Rattle.host.specs.{declared.told.OrderTold.OrderTold, declared.told.TrainAnswer.TrainAnswer}
 
 -- a number that was asked of a session
 unfoldable pub numberAnswer : List ℕ → ℕ → Answer

@@ -1,16 +1,9 @@
 -- What the rules say of the lent bytes: of the counter and the view that they stand for, whatever they are.
-use mathlib.Core.List.{List}
-use mathlib.Core.Path.{_≡_}
+use mathlib.Core.{List.List, Path._≡_}
 use Prim.Native.Nat.{ℕ}
-use Rattle.kinds.specs.declared.Loco.{Loco}
-use Rattle.kinds.specs.declared.Ticket.{Ticket}
-use Rattle.rules.specs.Deeds.{endAsked}
-use Rattle.rules.specs.Named.{namedIn}
-use Rattle.rules.specs.Registering.{ticketFor}
-use Rattle.rules.specs.Rules.{Op, rule}
-use Rattle.rules.specs.declared.ruling.Answer.{Answer}
-use Rattle.rules.specs.declared.ruling.Ruling.{Ruling}
-use Rattle.rules.specs.declared.settings.Settings.{Settings}
+use Rattle.kinds.specs.{declared.Loco.Loco, declared.Ticket.Ticket}
+use Rattle.rules.specs.{Deeds.endAsked, Named.namedIn, Registering.ticketFor, Rules.Op, Rules.rule, declared.ruling.Answer.Answer}
+use Rattle.rules.specs.{declared.ruling.Ruling.Ruling, declared.settings.Settings.Settings}
 use Rattle.store.specs.Stands.{viewOf, counterOf}
 
 -- what the rules say of an operation on the lent bytes; a request would take the next ticket

@@ -1,8 +1,7 @@
 -- What a search of numbered things finds.
 use mathlib.Core.Bool.{Bool, true, false, cond}
 use Prim.Native.Nat.{ℕ, zero, suc}
-use Rattle.kinds.specs.declared.found.Found.{Found}
-use Rattle.kinds.specs.declared.found.Found.the-variants.{Nothing, Index}
+use Rattle.kinds.specs.{declared.found.Found.Found, declared.found.Found.the-variants.Nothing, declared.found.Found.the-variants.Index}
 
 -- the first of i, i + 1, .. (n numbers) at which p is true
 unfoldable pub first : (p : ℕ → Bool) → ℕ → ℕ → Found

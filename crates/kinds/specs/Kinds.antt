@@ -2,21 +2,15 @@
 use mathlib.Core.Bool.{Bool}
 use Prim.Native.Nat.{ℕ}
 use lib.Dec.{eqb, ltb}
-use Rattle.kinds.specs.declared.Loco.{Loco}
-use Rattle.kinds.specs.declared.Ticket.{Ticket}
-use Rattle.kinds.specs.declared.Slot.{Slot}
-use Rattle.kinds.specs.Ranges.{oneTo}
+use Rattle.kinds.specs.{declared.Loco.Loco, declared.Ticket.Ticket, declared.Slot.Slot, Ranges.oneTo}
 
--- the highest loco number
-abbrev pub lastLoco : ℕ
+abbrev pub lastLoco : ℕ  -- the highest loco number
 lastLoco = 131070
 
--- the highest ticket
-abbrev pub lastTicket : ℕ
+abbrev pub lastTicket : ℕ  -- the highest ticket
 lastTicket = 65535
 
--- the highest slot
-abbrev pub lastSlot : ℕ
+abbrev pub lastSlot : ℕ  -- the highest slot
 lastSlot = 44
 
 -- the loco number of an empty row, which names no train
@@ -34,10 +28,6 @@ sameTicket a b = eqb (a .0) (b .0)
 -- the first ticket is the higher one
 abbrev pub isAbove : Ticket → Ticket → Bool
 isAbove a b = ltb (b .0) (a .0)
-
--- two slots are the same
-abbrev pub sameSlot : Slot → Slot → Bool
-sameSlot a b = eqb (a .0) (b .0)
 
 -- loco numbers are 1 to 131,070
 abbrev pub locoInRange : Loco → Bool

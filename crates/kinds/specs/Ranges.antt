@@ -5,16 +5,13 @@ use lib.Dec.{eqb, leb}
 use Rattle.kinds.specs.declared.ranges.Location.{Location}
 use Rattle.kinds.specs.declared.ranges.Location.the-variants.{Nowhere, At}
 
--- the highest location, in metres
-abbrev pub lastLocation : ℕ
+abbrev pub lastLocation : ℕ  -- the highest location, in metres
 lastLocation = 524287
 
--- there are four grids
-abbrev pub gridCount : ℕ
+abbrev pub gridCount : ℕ  -- there are four grids
 gridCount = 4
 
--- what a boundary carries for no authority, or no danger location
-abbrev pub none : ℕ
+abbrev pub none : ℕ  -- what a boundary carries for no authority, or no danger location
 none = 4294967295
 
 -- 1 to a last number

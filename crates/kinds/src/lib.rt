@@ -4,7 +4,7 @@ pub mod found;
 pub mod ranges;
 
 ghost use mathlib.Core.Path.{_≡_};
-ghost use Rattle.kinds.specs.Kinds.{noLoco, sameLoco, sameTicket, isAbove, sameSlot, locoInRange, ticketInRange, slotInRange};
+ghost use Rattle.kinds.specs.Kinds.{noLoco, sameLoco, sameTicket, isAbove, locoInRange, ticketInRange, slotInRange};
 
 pub const LAST_LOCO: u32 = 131070;
 
@@ -61,12 +61,6 @@ impl Ticket {
 }
 
 impl Slot {
-    pub fn is(self, other: Slot) -> bool
-        ensures { λ r. ⌜ r ≡ sameSlot self other ⌝ }
-    {
-        self.0 == other.0
-    }
-
     pub fn in_range(self) -> bool
         ensures { λ r. ⌜ r ≡ slotInRange self ⌝ }
     {

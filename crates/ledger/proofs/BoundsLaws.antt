@@ -13,7 +13,8 @@ use Rattle.store.proofs.ViewLaws.{entry-room}
 use Rattle.kinds.specs.declared.Slot.{Slot}
 use Rattle.kinds.specs.declared.Ticket.{Ticket}
 use Rattle.entries.specs.Entry.{hasEntry}
-use Rattle.entries.specs.Kept.{InBounds, inBounds}
+use Rattle.entries.specs.Kept.{inBounds}
+use Rattle.entries.proofs.BoundsLaws.{InBounds}
 use Rattle.ledger.specs.Back.{steppedBy, steppedIn}
 use Rattle.ledger.specs.Settled.{canPush, pushed, pushedIn, settled, settledIn}
 

@@ -29,7 +29,8 @@ use Rattle.kinds.specs.Kinds.{lastSlot}
 use Rattle.trains.specs.Sought.{rowCount}
 use Rattle.kinds.specs.declared.Ticket.{Ticket}
 use Rattle.entries.specs.Entry.{saved}
-use Rattle.entries.specs.Kept.{InBounds, entryKept}
+use Rattle.entries.specs.Kept.{entryKept}
+use Rattle.entries.proofs.BoundsLaws.{InBounds}
 use Rattle.entries.specs.Marks.{runMarked}
 use Rattle.entries.proofs.EntryLaws.{entry-stays, entry-kept-changes, entry-kept-back}
 use Rattle.entries.proofs.PutLaws.{RowPut, row-put, row-unput, lent-booked, put-changes, put-view}

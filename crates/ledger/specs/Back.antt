@@ -1,11 +1,9 @@
 -- The latest entry undone in the bytes, and a step back by so many. The ticket counter stays.
-use mathlib.Core.Bool.{cond}
-use mathlib.Core.List.{List}
+use mathlib.Core.{Bool.cond, List.List}
 use Prim.Native.Nat.{ℕ, zero, suc, _-_}
 use Rattle.replay.specs.Demand3.{depth}
 use Rattle.ring.specs.Ring.{before}
-use Rattle.store.specs.Layout.{isSession, entryOffset}
-use Rattle.store.specs.Stands.{counterOf, keptOf, headOf}
+use Rattle.store.specs.{Layout.isSession, Layout.entryOffset, Stands.counterOf, Stands.keptOf, Stands.headOf}
 use Rattle.entries.specs.Undone.{entryBack}
 use Rattle.ledger.specs.Log.{headed}
 

@@ -4,8 +4,7 @@ use Prim.Native.Nat.{ℕ}
 use Rattle.numbers.specs.Numbers.{putNumber}
 use Rattle.replay.specs.Demand3.{depth}
 use Rattle.ring.specs.Ring.{readBack}
-use Rattle.store.specs.Layout.{wordBytes, counterAt, keptAt, headAt, entryOffset}
-use Rattle.store.specs.Stands.{keptOf, headOf}
+use Rattle.store.specs.{Layout.wordBytes, Layout.counterAt, Layout.keptAt, Layout.headAt, Layout.entryOffset, Stands.keptOf, Stands.headOf}
 use Rattle.kinds.specs.declared.Ticket.{Ticket}
 use Rattle.entries.specs.Entry.{Entry, entryAt}
 

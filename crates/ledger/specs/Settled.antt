@@ -1,21 +1,16 @@
 -- AN EFFECT TAKEN INTO THE BYTES, the one way in which an accepted operation changes a session: what undoes it is pushed, the counter set, the
 -- slots marked and the rows put.
-use mathlib.Core.Bool.{Bool, cond, _&&_}
-use mathlib.Core.List.{List}
+use mathlib.Core.{Bool.Bool, Bool.cond, Bool._&&_, List.List}
 use Prim.Native.Nat.{ℕ, suc, min}
 use lib.Dec.{ltb}
 use Rattle.replay.specs.Demand3.{depth}
 use Rattle.ring.specs.Ring.{after}
 use Rattle.rows.specs.Row.{putRow}
-use Rattle.rules.specs.declared.effect.Change.{Change}
-use Rattle.rules.specs.declared.effect.Effect.{Effect}
-use Rattle.store.specs.Layout.{isSession, rowOffset, entryOffset}
-use Rattle.store.specs.Stands.{keptOf, headOf}
+use Rattle.rules.specs.{declared.effect.Change.Change, declared.effect.Effect.Effect}
+use Rattle.store.specs.{Layout.isSession, Layout.rowOffset, Layout.entryOffset, Stands.keptOf, Stands.headOf}
 use Rattle.trains.specs.Sought.{rowCount}
-use Rattle.kinds.specs.declared.Slot.{Slot}
-use Rattle.kinds.specs.declared.Ticket.{Ticket}
-use Rattle.entries.specs.Kept.{canKeep, inBounds, entryKept}
-use Rattle.entries.specs.Marks.{runMarked}
+use Rattle.kinds.specs.{declared.Slot.Slot, declared.Ticket.Ticket}
+use Rattle.entries.specs.{Kept.canKeep, Kept.inBounds, Kept.entryKept, Marks.runMarked}
 use Rattle.ledger.specs.Log.{headed}
 
 -- ---- the entry pushed

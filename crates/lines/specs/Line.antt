@@ -1,14 +1,10 @@
 -- A line in an array that has room for the longest.
-use mathlib.Core.Bool.{cond}
-use mathlib.Core.List.{List, [], _∷_, _++_}
-use mathlib.Core.Path.{_≡_}
+use mathlib.Core.{Bool.cond, List.List, List.[], List._∷_, List._++_, Path._≡_}
 use Prim.Native.Nat.{ℕ, _+_, _-_, _≤_}
-use lib.Dec.{ltb}
-use lib.ListN.{length, replicate, set}
+use lib.{Dec.ltb, ListN.length, ListN.replicate, ListN.set}
 use Rattle.lines.specs.declared.line.Line.{Line}
 
--- the bytes of the array: 20 digits, 5 times a space and 10 digits, and the newline take 76
-abbrev pub room : ℕ
+abbrev pub room : ℕ  -- the bytes of the array: 20 digits, 5 times a space and 10 digits, and the newline take 76
 room = 80
 
 -- a text that has room as a line: the text, zeros behind it, and its length

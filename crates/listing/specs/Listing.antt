@@ -1,15 +1,12 @@
 -- THE LISTING of a recording: from the empty session the records are run one after another, each gets its line, and a record that is not run is
 -- the last.
-use mathlib.Core.Bool.{Bool, cond}
-use mathlib.Core.List.{List, [], _∷_, _++_}
+use mathlib.Core.{Bool.Bool, Bool.cond, List.List, List.[], List._∷_, List._++_}
 use Prim.Native.Nat.{ℕ, zero, suc, _+_}
 use lib.ListN.{length, drop}
 use Rattle.lines.specs.Text.{runLine, endLine}
-use Rattle.records.specs.Form.{recordLength, isRun}
-use Rattle.records.specs.declared.told.Ran.{Ran}
+use Rattle.records.specs.{Form.recordLength, Form.isRun, declared.told.Ran.Ran}
 use Rattle.turns.specs.Turns.{textOf, oneIfAccepted}
-use Rattle.recording.specs.Recorded.{emptySession}
-use Rattle.recording.specs.Running.{ranRecord, bytesAfterRecord}
+use Rattle.recording.specs.{Recorded.emptySession, Running.ranRecord, Running.bytesAfterRecord}
 
 -- what the records come to that are held, the first one first, run on a session where so many came before. The bound is on the number of
 -- records: as many as there are bytes is always enough

@@ -1,16 +1,11 @@
 -- A recording lent whole, and the answer of listing it into an output.
-use mathlib.Core.Bool.{cond}
-use mathlib.Core.List.{List}
-use mathlib.Core.Path.{_≡_}
+use mathlib.Core.{Bool.cond, List.List, Path._≡_}
 use Prim.Native.Nat.{ℕ, _+_, _≤_}
-use lib.Dec.{leb}
-use lib.ListN.{length}
-use Rattle.listing.specs.Listing.{listing}
+use lib.{Dec.leb, ListN.length}
+use Rattle.listing.specs.{Listing.listing, declared.whole.Listed.Listed}
 use Rattle.turns.specs.Placing.{putAt}
-use Rattle.listing.specs.declared.whole.Listed.{Listed}
 
--- THE GROUND of the only refusal: the output is too small for the listing
-abbrev pub outputTooSmall : ℕ
+abbrev pub outputTooSmall : ℕ  -- THE GROUND of the only refusal: the output is too small for the listing
 outputTooSmall = 1
 
 -- the answer, for an output of so many bytes

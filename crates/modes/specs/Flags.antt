@@ -1,13 +1,10 @@
 -- The condition flags (document 01, "Modes").
-use mathlib.Core.Bool.{Bool, false, not, _||_}
-use mathlib.Core.List.{List, [], _∷_}
+use mathlib.Core.{Bool.Bool, Bool.false, Bool.not, Bool._||_, List.List, List.[], List._∷_}
 use Prim.Native.Nat.{ℕ, _-_}
-use lib.Dec.{eqb, ltb}
-use lib.ListN.{length, getD}
+use lib.{Dec.eqb, Dec.ltb, ListN.length, ListN.getD}
 use Rattle.transitions.specs.Table.{conditionCount}
 
--- each condition has a flag of one byte
-abbrev pub flagCount : ℕ
+abbrev pub flagCount : ℕ  -- each condition has a flag of one byte
 flagCount = conditionCount
 
 -- is condition n set? Condition n is byte n of the flags, counted from 1

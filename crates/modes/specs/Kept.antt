@@ -1,13 +1,9 @@
 -- What the code does with one transition of the table. Only private functions cite this.
-use mathlib.Core.Bool.{cond}
-use mathlib.Core.List.{List}
+use mathlib.Core.{Bool.cond, List.List}
 use Prim.Native.Nat.{ℕ, min}
-use lib.Dec.{eqb, ltb}
-use lib.ListN.{getD}
+use lib.{Dec.eqb, Dec.ltb, ListN.getD}
 use Rattle.transitions.specs.Held.{stated}
-use Rattle.modes.specs.Flags.{anySet}
-use Rattle.modes.specs.Next.{accepted}
-use Rattle.modes.specs.declared.Step.{Step}
+use Rattle.modes.specs.{Flags.anySet, Next.accepted, declared.Step.Step}
 
 -- the best step so far, after one more open transition; a priority of 0 is none so far
 unfoldable pub kept : Step → ℕ → ℕ → Step

@@ -1,14 +1,10 @@
 -- The mode step (document 01, "Modes"): of the open transitions those of the best priority, of these the lowest target.
-use mathlib.Core.Bool.{Bool, cond, not, _&&_, _||_}
-use mathlib.Core.List.{List, [], _∷_, map, foldr}
+use mathlib.Core.{Bool.Bool, Bool.cond, Bool.not, Bool._&&_, Bool._||_, List.List, List.[], List._∷_, List.map, List.foldr}
 use Prim.Native.Nat.{ℕ, min}
-use lib.Dec.{eqb, leb, ltb}
-use lib.ListN.{length}
+use lib.{Dec.eqb, Dec.leb, Dec.ltb, ListN.length}
 use Rattle.numbers.specs.Numbers.{oneIf}
-use Rattle.transitions.specs.Names.{SB, IS}
-use Rattle.transitions.specs.Table.{Transition, table, those, leavesFrom}
-use Rattle.modes.specs.Flags.{anySet, wrongCount, flagAboveOne}
-use Rattle.modes.specs.declared.Step.{Step}
+use Rattle.transitions.specs.{Names.SB, Names.IS, Table.Transition, Table.table, Table.those, Table.leavesFrom}
+use Rattle.modes.specs.{Flags.anySet, Flags.wrongCount, Flags.flagAboveOne, declared.Step.Step}
 
 -- a transition is open when any of its conditions is set
 abbrev pub isOpen : List ℕ → Transition → Bool
@@ -64,8 +60,7 @@ modeOutOfRange m = not (leb SB m && leb m IS)
 unfoldable pub refuses : ℕ → List ℕ → Bool
 refuses m flags = modeOutOfRange m || (wrongCount flags || flagAboveOne flags)
 
--- the answer's number on each of these grounds
-abbrev pub outOfRange : ℕ
+abbrev pub outOfRange : ℕ  -- the answer's number on each of these grounds
 outOfRange = 17
 
 -- a refusal has zeros for its numbers

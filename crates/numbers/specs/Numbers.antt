@@ -1,7 +1,6 @@
 -- Numbers that start at a byte and take whole bytes, high byte first: the fields at 8 times the byte's index.
 use Prim.Native.Nat.{ℕ, _*_}
-use mathlib.Core.List.{List}
-use mathlib.Core.Bool.{Bool, cond}
+use mathlib.Core.{List.List, Bool.Bool, Bool.cond}
 use Rattle.numbers.specs.Fields.{field, put}
 
 -- the number of n bytes at byte i; a byte past the end reads as 0

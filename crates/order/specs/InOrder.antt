@@ -1,26 +1,16 @@
 -- IN ORDER: what holds of the ticket counter and the view after any operations from the start.
-use mathlib.Core.Path.{_≡_}
-use mathlib.Core.Bool.{Bool, true, false, cond, _||_}
-use mathlib.Core.List.{List}
+use mathlib.Core.{Path._≡_, Bool.Bool, Bool.true, Bool.false, Bool.cond, Bool._||_, List.List}
 use Prim.Native.Nat.{ℕ, _+_, _≤_}
-use lib.Dec.{eqb}
-use lib.ListN.{length, getD, replicate}
+use lib.{Dec.eqb, ListN.length, ListN.getD, ListN.replicate}
 use Rattle.transitions.specs.Names.{SB, FS, OV, OS, PT, IS}
-use Rattle.kinds.specs.Kinds.{lastLoco, lastTicket, lastSlot, sameLoco, sameTicket}
-use Rattle.kinds.specs.Ranges.{lastLocation}
-use Rattle.trains.specs.Record.{noTicket, noOrder, orderCount, orderAt, blankTrain, isEmpty}
-use Rattle.trains.specs.Sought.{rowCount}
-use Rattle.kinds.specs.declared.Ticket.{Ticket}
-use Rattle.trains.specs.declared.record.Limit.{Limit}
-use Rattle.trains.specs.declared.record.Limit.the-variants.{Bare, To}
-use Rattle.kinds.specs.declared.ranges.Location.{Location}
+use Rattle.kinds.specs.{Kinds.lastLoco, Kinds.lastTicket, Kinds.lastSlot, Kinds.sameLoco, Kinds.sameTicket, Ranges.lastLocation}
+use Rattle.kinds.specs.{declared.Ticket.Ticket, declared.ranges.Location.Location}
 use Rattle.kinds.specs.declared.ranges.Location.the-variants.{Nowhere, At}
-use Rattle.trains.specs.declared.record.Order.{Order}
-use Rattle.trains.specs.declared.record.Position.{Position}
-use Rattle.trains.specs.declared.record.Position.the-variants.{Unknown, Between}
-use Rattle.trains.specs.declared.record.Train.{Train}
-use Rattle.rules.specs.Slots.{mostSlots, slotOf}
-use Rattle.rules.specs.View.{View, rowIn, isTaken}
+use Rattle.trains.specs.{Record.noTicket, Record.noOrder, Record.orderCount, Record.orderAt, Record.blankTrain, Record.isEmpty, Sought.rowCount}
+use Rattle.trains.specs.{declared.record.Limit.Limit, declared.record.Limit.the-variants.Bare, declared.record.Limit.the-variants.To}
+use Rattle.trains.specs.{declared.record.Order.Order, declared.record.Position.Position}
+use Rattle.trains.specs.{declared.record.Position.the-variants.Unknown, declared.record.Position.the-variants.Between, declared.record.Train.Train}
+use Rattle.rules.specs.{Slots.mostSlots, Slots.slotOf, View.View, View.rowIn, View.isTaken}
 use Rattle.order.specs.Sound.{Live, Has, NoTwo, Sound}
 
 -- ---- one train

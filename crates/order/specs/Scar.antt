@@ -1,14 +1,9 @@
 -- What a pair of a loco and a ticket names, and what a release takes away: no other train, and no other train's slot.
-use mathlib.Core.Path.{_≡_}
-use mathlib.Core.Bool.{true}
+use mathlib.Core.{Path._≡_, Bool.true}
 use Prim.Native.Nat.{ℕ}
-use Rattle.kinds.specs.Kinds.{sameLoco, sameTicket}
-use Rattle.trains.specs.Record.{blankTrain}
-use Rattle.kinds.specs.declared.Loco.{Loco}
-use Rattle.kinds.specs.declared.Ticket.{Ticket}
-use Rattle.trains.specs.declared.record.Train.{Train}
-use Rattle.rules.specs.Slots.{slotOf}
-use Rattle.rules.specs.View.{View, rowIn, markOf}
+use Rattle.kinds.specs.{Kinds.sameLoco, Kinds.sameTicket, declared.Loco.Loco, declared.Ticket.Ticket}
+use Rattle.trains.specs.{Record.blankTrain, declared.record.Train.Train}
+use Rattle.rules.specs.{Slots.slotOf, View.View, View.rowIn, View.markOf}
 use Rattle.order.specs.Sound.{Live, InBook, Has}
 
 -- a live train has this loco and this ticket

@@ -1,14 +1,10 @@
 -- SOUND VIEWS: the book marks every slot of every train, and no slot has two trains. Undoing an operation's marks is exact on these.
-use mathlib.Core.Path.{_≡_}
-use mathlib.Core.Bool.{false}
+use mathlib.Core.{Path._≡_, Bool.false}
 use Prim.Native.Nat.{ℕ, _+_, _≤_, _<_}
 use lib.ListN.{length}
 use Rattle.kinds.specs.Kinds.{lastSlot}
-use Rattle.trains.specs.Record.{isEmpty}
-use Rattle.trains.specs.Sought.{rowCount}
-use Rattle.trains.specs.declared.record.Train.{Train}
-use Rattle.rules.specs.Slots.{slotOf}
-use Rattle.rules.specs.View.{View, rowIn, markOf}
+use Rattle.trains.specs.{Record.isEmpty, Sought.rowCount, declared.record.Train.Train}
+use Rattle.rules.specs.{Slots.slotOf, View.View, View.rowIn, View.markOf}
 
 -- a row holds a train; a row that is none of the 24 holds none
 abbrev pub Live : Train → Type 0

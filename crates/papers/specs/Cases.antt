@@ -3,16 +3,11 @@
 use mathlib.Core.List.{List, [], _∷_, _++_, foldl}
 use Prim.Native.Nat.{ℕ, _-_}
 use lib.ListN.{replicate, set}
-use Rattle.gates.specs.Gates.{gateBytes}
+use Rattle.gates.specs.{Gates.gateBytes, declared.GatesAnswer.GatesAnswer}
 use Rattle.gate_reading.specs.Reading.{readAnswer, readInto}
-use Rattle.gates.specs.declared.GatesAnswer.{GatesAnswer}
-use Rattle.modes.specs.Flags.{flagCount}
-use Rattle.modes.specs.Next.{nextStep}
-use Rattle.modes.specs.declared.Step.{Step}
-use Rattle.kinds.specs.declared.Loco.{Loco}
-use Rattle.kinds.specs.declared.Ticket.{Ticket}
-use Rattle.rules.specs.declared.ruling.Answer.{Answer}
-use Rattle.rules.specs.Rules.{Op, request}
+use Rattle.modes.specs.{Flags.flagCount, Next.nextStep, declared.Step.Step}
+use Rattle.kinds.specs.{declared.Loco.Loco, declared.Ticket.Ticket}
+use Rattle.rules.specs.{declared.ruling.Answer.Answer, Rules.Op, Rules.request}
 use Rattle.session.specs.Answers.{startAfter, answerTo, bytesAfter, endAnswerTo}
 
 pub data Case : Type 0 where

@@ -3,10 +3,8 @@
 use mathlib.Core.List.{List, [], _∷_, _++_}
 use Prim.Native.Nat.{ℕ, _/_, _%_}
 use Rattle.transitions.specs.Names.{LS, FS, OV, TR, IS}
-use Rattle.kinds.specs.declared.Loco.{Loco}
-use Rattle.kinds.specs.declared.Ticket.{Ticket}
-use Rattle.rules.specs.Deeds.{flags, position, authority, danger}
-use Rattle.rules.specs.Rules.{Op, request, on, sos}
+use Rattle.kinds.specs.{declared.Loco.Loco, declared.Ticket.Ticket}
+use Rattle.rules.specs.{Deeds.flags, Deeds.position, Deeds.authority, Deeds.danger, Rules.Op, Rules.request, Rules.on, Rules.sos}
 use Rattle.papers.specs.Cases.{Case, reading, stepping, requesting, ending, flagsOf, untouched}
 
 -- an example, and the numbers printed for it

@@ -1,6 +1,5 @@
 -- The empty session that a recording is run from, the calls that it makes, and the session's bytes after them: what demand 3 speaks of.
-use mathlib.Core.Bool.{cond}
-use mathlib.Core.List.{List, [], _∷_}
+use mathlib.Core.{Bool.cond, List.List, List.[], List._∷_}
 use Prim.Native.Nat.{ℕ, zero, suc, _+_}
 use lib.ListN.{length, drop, replicate}
 use Rattle.replay.specs.Demand3.{Call}

@@ -1,11 +1,8 @@
 -- ONE RECORD RUN on a lent session: what its line tells, how many bytes it used, and the session's bytes after it, for all bytes.
-use mathlib.Core.Bool.{cond}
-use mathlib.Core.List.{List}
+use mathlib.Core.{Bool.cond, List.List}
 use Prim.Native.Nat.{ℕ}
 use Rattle.standing.specs.Standing.{answered, bytesLeft}
-use Rattle.records.specs.Form.{kindOf, recordLength, isRun, callOf}
-use Rattle.records.specs.Told.{notRun, runWith}
-use Rattle.records.specs.declared.told.Ran.{Ran}
+use Rattle.records.specs.{Form.kindOf, Form.recordLength, Form.isRun, Form.callOf, Told.notRun, Told.runWith, declared.told.Ran.Ran}
 
 -- what running the first record tells
 unfoldable pub ranRecord : List ℕ → List ℕ → ℕ → Ran

@@ -2,8 +2,7 @@
 use mathlib.Core.List.{List}
 use Prim.Native.Nat.{ℕ}
 use Rattle.replay.specs.Demand3.{Call, op, back}
-use Rattle.rules.specs.Deeds.{meant}
-use Rattle.rules.specs.Rules.{Op, request, release, on, sos}
+use Rattle.rules.specs.{Deeds.meant, Rules.Op, Rules.request, Rules.release, Rules.on, Rules.sos}
 use Rattle.records.specs.declared.asked.Asked.{Asked}
 use Rattle.records.specs.declared.asked.Asked.the-variants.{Request, Release, On, Sos, StepBack}
 

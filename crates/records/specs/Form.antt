@@ -1,29 +1,23 @@
 -- The form of a record: the mark, the kind, the payload's length and the payload. What follows a record
 -- is not read.
-use mathlib.Core.Bool.{Bool, _&&_}
-use mathlib.Core.List.{List}
+use mathlib.Core.{Bool.Bool, Bool._&&_, List.List}
 use Prim.Native.Nat.{ℕ, _+_, _*_}
-use lib.Dec.{eqb, leb, ltb}
-use lib.ListN.{length, take, drop}
+use lib.{Dec.eqb, Dec.leb, Dec.ltb, ListN.length, ListN.take, ListN.drop}
 use Rattle.numbers.specs.Numbers.{numberAt}
 use Rattle.replay.specs.Demand3.{Call}
 use Rattle.rules.specs.Rules.{Op}
 use Rattle.records.specs.Kinds.{payloadLength, callBy}
 
--- the mark 4B 56
-abbrev pub mark : ℕ
+abbrev pub mark : ℕ  -- the mark 4B 56
 mark = 75 * 256 + 86
 
--- the bytes before the payload
-abbrev pub headBytes : ℕ
+abbrev pub headBytes : ℕ  -- the bytes before the payload
 headBytes = 4
 
--- the bytes of the longest record
-abbrev pub longest : ℕ
+abbrev pub longest : ℕ  -- the bytes of the longest record
 longest = 101
 
--- a recording has at most so many records
-abbrev pub mostRecords : ℕ
+abbrev pub mostRecords : ℕ  -- a recording has at most so many records
 mostRecords = 4294967295
 
 -- the number of the kind, behind the mark

@@ -1,19 +1,15 @@
 -- THE KINDS OF RECORD: the length of each kind's payload, and the call that a payload makes. Numbers stand high byte first: locos and locations
 -- 4 bytes, tickets, byte counts and k 2, a grid 1.
-use mathlib.Core.Bool.{cond}
-use mathlib.Core.List.{List, [], _∷_}
+use mathlib.Core.{Bool.cond, List.List, List.[], List._∷_}
 use Prim.Native.Nat.{ℕ}
-use lib.Dec.{eqb, ltb}
-use lib.ListN.{length, drop}
+use lib.{Dec.eqb, Dec.ltb, ListN.length, ListN.drop}
 use Rattle.numbers.specs.Numbers.{numberAt}
-use Rattle.kinds.specs.declared.Loco.{Loco}
-use Rattle.kinds.specs.declared.Ticket.{Ticket}
+use Rattle.kinds.specs.{declared.Loco.Loco, declared.Ticket.Ticket}
 use Rattle.replay.specs.Demand3.{Call, op, back}
 use Rattle.rules.specs.Deeds.{Deed, flags, position, authority, danger, clear}
 use Rattle.rules.specs.Rules.{Op, request, release, on, sos}
 
--- where the flags begin
-abbrev pub flagsAt : ℕ
+abbrev pub flagsAt : ℕ  -- where the flags begin
 flagsAt = 6
 
 -- the loco number at byte i of a payload

@@ -1,8 +1,6 @@
 -- What running a record tells: the numbers of its line, and how many bytes it used.
 use Prim.Native.Nat.{ℕ, _+_}
-use Rattle.rules.specs.Refusals.{badRecord}
-use Rattle.rules.specs.Ruling.{refusedWith}
-use Rattle.rules.specs.declared.ruling.Answer.{Answer}
+use Rattle.rules.specs.{Refusals.badRecord, Ruling.refusedWith, declared.ruling.Answer.Answer}
 use Rattle.records.specs.declared.told.Ran.{Ran}
 
 -- a record of this kind that is run, with its answer, and uses so many bytes

@@ -8,8 +8,9 @@ ghost use mathlib.Core.Path.{_≡_};
 ghost use Prim.Native.Nat.{_+_, _*_, _<_};
 ghost use Rattle.numbers.specs.Numbers.{numberAt};
 ghost use Rattle.trains.specs.Sought.{rowCount};
+ghost use Rattle.trains.specs.declared.sought.Sought.the-variants.{Pair, Number, Empty};
 ghost use Rattle.rows.specs.Row.{rowBytes};
-ghost use Rattle.register.specs.Register.{rowHolds, searched, findTrain, findLoco, findEmpty};
+ghost use Rattle.register.specs.Register.{rowHolds, searched, foundIn};
 
 // The number of 4 bytes at a byte of row i.
 fn word_in(register: &[u8], at: usize, i: usize, offset: usize) -> u32
@@ -51,7 +52,7 @@ fn search(register: &[u8], at: usize, loco: Loco, ticket: Ticket) -> Found
 
 // The first row that holds a loco and a ticket together. The loco number of an empty row and a ticket out of range name no train.
 pub fn find(register: &[u8], at: usize, loco: Loco, ticket: Ticket) -> Found
-    ensures { λ r. ⌜ r ≡ findTrain (now (register .entry)) at loco ticket ⌝ }
+    ensures { λ r. ⌜ r ≡ foundIn (now (register .entry)) at (Pair loco ticket) ⌝ }
 {
     if loco.is_none() {
         return Found::Nothing;
@@ -64,7 +65,7 @@ pub fn find(register: &[u8], at: usize, loco: Loco, ticket: Ticket) -> Found
 
 // The first row with a loco number.
 pub fn find_loco(register: &[u8], at: usize, loco: Loco) -> Found
-    ensures { λ r. ⌜ r ≡ findLoco (now (register .entry)) at loco ⌝ }
+    ensures { λ r. ⌜ r ≡ foundIn (now (register .entry)) at (Number loco) ⌝ }
 {
     if loco.is_none() {
         return Found::Nothing;
@@ -74,7 +75,7 @@ pub fn find_loco(register: &[u8], at: usize, loco: Loco) -> Found
 
 // The first empty row.
 pub fn find_empty(register: &[u8], at: usize) -> Found
-    ensures { λ r. ⌜ r ≡ findEmpty (now (register .entry)) at ⌝ }
+    ensures { λ r. ⌜ r ≡ foundIn (now (register .entry)) at Empty ⌝ }
 {
     search(register, at, Loco(0), Ticket(0))
 }

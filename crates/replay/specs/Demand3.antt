@@ -3,12 +3,8 @@
 --     Replay      those played again, the oldest first       tickets     the tickets issued
 --     kept        the entries kept, by the entry rule        Demand3     the demand, of a session in bytes
 use Prim.Native.Nat.{ℕ, suc, _-_, _≤_, _<_, min}
-use mathlib.Core.Path.{_≡_}
-use mathlib.Core.Logic.{_≢_}
-use mathlib.Core.Bool.{cond}
-use mathlib.Core.List.{List, [], _∷_, _++_}
-use lib.Dec.{leb}
-use lib.ListN.{length, take, getD}
+use mathlib.Core.{Path._≡_, Logic._≢_, Bool.cond, List.List, List.[], List._∷_, List._++_}
+use lib.{Dec.leb, ListN.length, ListN.take, ListN.getD}
 use Rattle.replay.specs.Rules.{Rules, Outcome, refuse, accept, justBelow, ticketDue, verdict}
 
 -- the entries that are kept at most

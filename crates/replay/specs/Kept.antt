@@ -1,9 +1,7 @@
 -- What a session that is kept in bytes has to show, so that demand 3 holds of it: its contracts do there what the machine does.
 use Prim.Native.Nat.{ℕ}
 use mathlib.Core.Path.{_≡_}
-use Rattle.replay.specs.Rules.{Rules}
-use Rattle.replay.specs.Demand3.{Call, Answer, refused, Session, viewIn}
-use Rattle.replay.specs.Machine.{step}
+use Rattle.replay.specs.{Rules.Rules, Demand3.Call, Demand3.Answer, Demand3.refused, Demand3.Session, Demand3.viewIn, Machine.step}
 
 module _ {R : Rules} (S : Session R) where
   open Rules R using (Op, Reply, Sound)

@@ -1,9 +1,7 @@
 -- The machine: what one call does to a session's view, counter and log, over any rules. A session in bytes shows that its calls do this (Kept.antt).
 use Prim.Native.Nat.{ℕ}
-use mathlib.Core.Bool.{cond}
-use mathlib.Core.List.{List, [], _∷_}
-use lib.Dec.{leb}
-use lib.ListN.{length, take, drop}
+use mathlib.Core.{Bool.cond, List.List, List.[], List._∷_}
+use lib.{Dec.leb, ListN.length, ListN.take, ListN.drop}
 use Rattle.replay.specs.Rules.{Rules, Outcome, refuse, accept, ticketDue, verdict, counterAfter}
 use Rattle.replay.specs.Demand3.{Call, op, back, Answer, State, depth, opAnswer, backAnswer}
 

@@ -1,8 +1,6 @@
 -- The operations that stand, played as calls from the same start: what the law of proofs/Played.antt speaks of.
 use Prim.Native.Nat.{ℕ}
-use mathlib.Core.Path.{_≡_}
-use mathlib.Core.Bool.{cond}
-use mathlib.Core.List.{List, [], _∷_, map}
+use mathlib.Core.{Path._≡_, Bool.cond, List.List, List.[], List._∷_, List.map}
 use Rattle.replay.specs.Rules.{Rules}
 use Rattle.replay.specs.Demand3.{Call, op, Exchange, Done, standing, History, tickets, Session, viewIn, counterIn}
 

@@ -1,8 +1,7 @@
 -- What a kind of session gives, so that demand 3 (Demand3.antt) can be said of it: its operations, what each does to the view, and how the log
 -- undoes it. `Rules` is what the rules are; `Lawful` is what must be proved of them.
 use Prim.Native.Nat.{ℕ, _-_, _≤_, _<_}
-use mathlib.Core.Path.{_≡_}
-use mathlib.Core.Bool.{Bool, true, cond}
+use mathlib.Core.{Path._≡_, Bool.Bool, Bool.true, Bool.cond}
 
 -- What the rules say of one operation: refused, with the number of the refusal; or accepted, with the reply and the view afterwards.
 pub data Outcome (View Reply : Type 0) : Type 0 where

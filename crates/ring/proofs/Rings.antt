@@ -1,14 +1,14 @@
--- A ring implements the list log: to write at the head is to put an entry on top and keep `cap`, to move the head back by k is to take k entries off.
+-- A ring implements the list log: to write at the head is to put an entry on top and keep `cap`.
 use Prim.Native.Nat.{ℕ, zero, suc, _+_, _-_, _≤_, _<_, min}
-use native.Mathlib.Nat.{le-of-suc-le-suc, not-suc-le-zero, suc-min-suc, suc-sub-suc, sub-zero, zero-min, min-zero}
+use native.Mathlib.Nat.{not-suc-le-zero, suc-min-suc, zero-min, min-zero}
 use native.Mathlib.Omega.{arith}
 use mathlib.Core.Path.{_≡_, refl, sym, ap, ap₂, _∙_, subst}
 use mathlib.Core.Logic.{_⊎_, inl, inr, _≢_}
-use mathlib.Core.Bool.{Bool, true, false, cond, not}
+use mathlib.Core.Bool.{Bool, true, false, not}
 use mathlib.Core.List.{List, _∷_}
-use lib.Dec.{T, leb, leb→le, nleb→lt, leb·zero, leb·suc-zero, leb·suc-suc}
-use lib.ListN.{length, take, drop}
-use Rattle.ring.specs.Ring.{before, after, backBy, readBack}
+use lib.Dec.{T, leb, leb→le, nleb→lt}
+use lib.ListN.{length, take}
+use Rattle.ring.specs.Ring.{before, after, readBack}
 
 -- a test, as one of two facts
 pub data Split (b : Bool) (yes no : Type 0) : Type 0 where
@@ -69,29 +69,6 @@ module _ (cap : ℕ) where
   before-in zero l = omega arith
   before-in (suc i) l = omega arith
 
-  pub backBy-in : (k i : ℕ) → i < cap → k ≤ cap → backBy cap k i < cap
-  backBy-in k i l m = go (leb-split k i)
-    where
-      go : Split (leb k i) (k ≤ i) (i < k) → backBy cap k i < cap
-      go (holds h e) = rw e (omega arith)
-      go (fails h e) = rw e (omega arith)
-
-  pub backBy-zero : (i : ℕ) → backBy cap 0 i ≡ i
-  backBy-zero i = rw leb·zero (sub-zero i)
-
-  -- one notch back, and k more
-  pub backBy-suc : (k i : ℕ) → i < cap → suc k ≤ cap → backBy cap k (before cap i) ≡ backBy cap (suc k) i
-  backBy-suc k zero l m = rw leb·suc-zero (go (leb-split k (cap - 1)))
-    where
-      go : Split (leb k (cap - 1)) (k ≤ cap - 1) (cap - 1 < k) → backBy cap k (cap - 1) ≡ 0 + cap - suc k
-      go (holds h e) = rw e (omega arith)
-      go (fails h e) = rw e (omega arith)
-  backBy-suc k (suc i) l m = rw leb·suc-suc (go (leb-split k i))
-    where
-      go : Split (leb k i) (k ≤ i) (i < k) → backBy cap k i ≡ cond (leb k i) (suc i - suc k) (suc i + cap - suc k)
-      go (holds h e) = rw e (omega arith)
-      go (fails h e) = rw e (omega arith)
-
   -- ── reading ──
 
   -- x is not among the n notches before `at`
@@ -129,13 +106,6 @@ module _ (cap : ℕ) where
     ring-same p q same (suc n) zero l = rw (same (cap - 1) (omega arith)) (ap (λ (r : List Entry). p (cap - 1) ∷ r) (ring-same p q same n (cap - 1) (omega arith)))
     ring-same p q same (suc n) (suc i) l = rw (same i (omega arith)) (ap (λ (r : List Entry). p i ∷ r) (ring-same p q same n i (omega arith)))
 
-    -- the newest k of n
-    pub ring-take : (p : ℕ → Entry) (k h n : ℕ) → k ≤ n → take k (readBack cap p h n) ≡ readBack cap p h k
-    ring-take p k h n g = take-readBack k p h n ∙ ap (readBack cap p h) least
-      where
-        least : min k n ≡ k
-        least = omega arith
-
     -- PUSH: the entry e is written at the head h, and no other notch changes; the head moves on by one, and one more entry is kept, up to cap
     pub ring-push : (p q : ℕ → Entry) (e : Entry) (h n : ℕ) → h < cap → n ≤ cap → q h ≡ e → ((i : ℕ) → i < cap → i ≢ h → q i ≡ p i)
         → readBack cap q (after cap h) (min cap (suc n)) ≡ take cap (e ∷ readBack cap p h n)
@@ -155,11 +125,3 @@ module _ (cap : ℕ) where
 
         one-more : suc (cap - 1) ≡ cap
         one-more = omega arith
-
-    -- POP: the head moves back by k, and k entries fewer are kept
-    pub ring-pop : (p : ℕ → Entry) (k h n : ℕ) → h < cap → n ≤ cap → k ≤ n → readBack cap p (backBy cap k h) (n - k) ≡ drop k (readBack cap p h n)
-    unfolding readBack
-    ring-pop p zero h n l m g = rw (backBy-zero, sub-zero)
-    ring-pop p (suc k) h zero l m g = absurd (not-suc-le-zero g)
-    ring-pop p (suc k) h (suc n) l m g =
-        rw (suc-sub-suc, ← (backBy-suc k h l (omega arith))) (ring-pop p k (before cap h) n (before-in h l) (omega arith) (le-of-suc-le-suc g))

@@ -1,19 +1,13 @@
 -- The parts of a row: the bytes that each number takes, the numbers of a part in order, and the part that numbers read as.
 -- What may be missing is a flag and its numbers: a flag of 0 says that it is missing, and then the numbers are 0.
-use mathlib.Core.Bool.{cond}
-use mathlib.Core.List.{List, [], _∷_, _++_, map}
+use mathlib.Core.{Bool.cond, List.List, List.[], List._∷_, List._++_, List.map}
 use Prim.Native.Nat.{ℕ, _*_}
-use lib.Dec.{eqb}
-use lib.ListN.{getD, drop}
-use Rattle.trains.specs.declared.record.Limit.{Limit}
-use Rattle.trains.specs.declared.record.Limit.the-variants.{Bare, To}
-use Rattle.trains.specs.declared.record.Order.{Order}
-use Rattle.kinds.specs.declared.ranges.Location.{Location}
-use Rattle.kinds.specs.declared.ranges.Location.the-variants.{Nowhere, At}
-use Rattle.trains.specs.declared.record.Position.{Position}
-use Rattle.trains.specs.declared.record.Position.the-variants.{Unknown, Between}
-use Rattle.trains.specs.declared.record.Track.{Track}
+use lib.{Dec.eqb, ListN.getD, ListN.drop}
+use Rattle.trains.specs.{declared.record.Limit.Limit, declared.record.Limit.the-variants.Bare, declared.record.Limit.the-variants.To}
+use Rattle.trains.specs.{declared.record.Order.Order, declared.record.Position.Position}
+use Rattle.trains.specs.{declared.record.Position.the-variants.Unknown, declared.record.Position.the-variants.Between, declared.record.Track.Track}
 use Rattle.trains.specs.Record.{orderAt}
+use Rattle.kinds.specs.{declared.ranges.Location.Location, declared.ranges.Location.the-variants.Nowhere, declared.ranges.Location.the-variants.At}
 
 -- the widths in bits of numbers whose sizes in bytes are given
 abbrev pub bits : List ℕ → List ℕ

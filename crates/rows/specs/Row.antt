@@ -6,16 +6,13 @@ use Rattle.numbers.specs.Pieces.{unpack, pack}
 use Rattle.trains.specs.declared.record.Train.{Train}
 use Rattle.rows.specs.Parts.{bits, trackSizes, ordersSizes, trackValues, ordersValues, trackOf, ordersOf}
 
--- the bytes of a row
-abbrev pub rowBytes : ℕ
+abbrev pub rowBytes : ℕ  -- the bytes of a row
 rowBytes = 67
 
--- where the track starts in a row
-abbrev pub trackStart : ℕ
+abbrev pub trackStart : ℕ  -- where the track starts in a row
 trackStart = 12
 
--- and where the orders do
-abbrev pub ordersStart : ℕ
+abbrev pub ordersStart : ℕ  -- and where the orders do
 ordersStart = 31
 
 -- loco, ticket, start, slots, mode, mode left

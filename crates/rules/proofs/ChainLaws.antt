@@ -1,7 +1,7 @@
 -- Laws of a chain of checks: the two ways that each can go, what a chain without a ground says of its checks, and the ruling by its ground.
 use mathlib.Core.Path.{_≡_, refl, sym, ap, _∙_}
-use mathlib.Core.Bool.{Bool, true, false, true≢false, false≢true, not, cond, _&&_, _||_}
-use Prim.Native.Nat.{ℕ, zero, suc}
+use mathlib.Core.Bool.{Bool, true, false, true≢false, false≢true, not, cond, _||_}
+use Prim.Native.Nat.{ℕ, suc}
 use native.Mathlib.Omega.{arith}
 use borrow.Author.Tests.{ne-eqb}
 use lib.Dec.{eqb}
@@ -62,7 +62,8 @@ allows counter ground done e = ap (λ (n : ℕ). cond (eqb n 0) done (refused co
 
 -- a train that is named: what is answered refuses on the grounds of the name first
 pub ruled-by-name : (inRange live : Bool) (a : Answer) (counter : Ticket) (e : Effect)
-    → (let b : Answer = cond inRange (cond live a (refusedWith noLiveTrain)) (refusedWith badLoco) in
+    → (let g : ℕ = unless inRange badLoco (unless live noLiveTrain 0) in
+    let b : Answer = cond (eqb g 0) a (refusedWith g) in
     ruled counter (b .answer) (ruling b counter e) ≡ ruled counter (unless inRange badLoco (unless live noLiveTrain (a .answer))) (ruling a counter e))
 unfolding ruled unless
 ruled-by-name true true a counter e = refl

@@ -1,21 +1,17 @@
 -- DEEDS, the operations on one train that is named: flags, position, authority, danger location, an order cleared. A deed takes a train and gives
 -- the answer and the train afterwards, and sees nothing else.
-use mathlib.Core.Bool.{Bool, cond}
-use mathlib.Core.List.{List}
+use mathlib.Core.{Bool.Bool, Bool.cond, List.List}
 use Prim.Native.Nat.{ℕ}
 use lib.Dec.{eqb}
 use Rattle.modes.specs.{Next.nextStep, declared.Step.Step}
-use Rattle.kinds.specs.{Ranges.isPosition, Ranges.isNoneOrLocation, Ranges.locationFrom}
+use Rattle.kinds.specs.{Ranges.isPosition, Ranges.isNoneOrLocation, Ranges.locationFrom, declared.Ticket.Ticket, declared.ranges.Location.Location}
+use Rattle.kinds.specs.declared.ranges.Location.the-variants.{Nowhere, At}
 use Rattle.trains.specs.{Authority.endOf, Orders.hasOrder, Orders.orderCleared}
-use Rattle.trains.specs.Changes.{withPosition, withAuthority, withDanger, withMode}
-use Rattle.kinds.specs.declared.{Ticket.Ticket}
-use Rattle.trains.specs.declared.{record.Train.Train}
-use Rattle.kinds.specs.declared.ranges.Location.{Location, the-variants.Nowhere, the-variants.At}
+use Rattle.trains.specs.{Changes.withPosition, Changes.withAuthority, Changes.withDanger, Changes.withMode, declared.record.Train.Train}
 use Rattle.rules.specs.{Effect.rowOnly, Named.nameGround, Named.nameAnswer, Refusals.badPosition, Refusals.badLocation, Refusals.noSuchOrder}
-use Rattle.rules.specs.{Ruling.acceptedWith, Ruling.refusedWith, Ruling.ruling}
-use Rattle.rules.specs.declared.{deeds.Changed.Changed, named.Named.Named, ruling.Answer.Answer, ruling.Ruling.Ruling}
-use Rattle.rules.specs.declared.deeds.Deed.{Deed as Said, the-variants.Flags, the-variants.Position, the-variants.Authority}
-use Rattle.rules.specs.declared.deeds.Deed.{the-variants.Danger, the-variants.Clear}
+use Rattle.rules.specs.{Ruling.acceptedWith, Ruling.refusedWith, Ruling.ruling, declared.deeds.Changed.Changed, declared.named.Named.Named}
+use Rattle.rules.specs.{declared.ruling.Answer.Answer, declared.ruling.Ruling.Ruling, declared.deeds.Deed.Deed as Said}
+use Rattle.rules.specs.declared.deeds.Deed.the-variants.{Flags, Position, Authority, Danger, Clear}
 
 pub data Deed : Type 0 where
   flags : List ℕ → Deed  -- 91 condition flags

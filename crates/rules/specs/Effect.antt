@@ -1,14 +1,10 @@
 -- What an accepted operation does to the view: a run of slots side by side marked in the book, one row changed, and for an SOS a second one.
-use mathlib.Core.Bool.{Bool, false, cond}
-use mathlib.Core.List.{List}
+use mathlib.Core.{Bool.Bool, Bool.false, Bool.cond, List.List}
 use Prim.Native.Nat.{ℕ, zero, suc, _-_}
 use lib.ListN.{set}
-use Rattle.kinds.specs.{Kinds.lastSlot, Ranges.oneTo}
-use Rattle.trains.specs.{Record.blankTrain, Sought.rowCount}
-use Rattle.kinds.specs.declared.{Slot.Slot}
-use Rattle.trains.specs.declared.{record.Train.Train}
-use Rattle.rules.specs.{View.View}
-use Rattle.rules.specs.declared.{effect.Change.Change, effect.Effect.Effect}
+use Rattle.kinds.specs.{Kinds.lastSlot, Ranges.oneTo, declared.Slot.Slot}
+use Rattle.trains.specs.{Record.blankTrain, Sought.rowCount, declared.record.Train.Train}
+use Rattle.rules.specs.{View.View, declared.effect.Change.Change, declared.effect.Effect.Effect}
 
 -- how a slot is marked: 1 where it is taken, 0 where it is free
 unfoldable pub markFor : Bool → ℕ

@@ -2,17 +2,14 @@
 use mathlib.Core.Bool.{Bool, false, not, _||_}
 use Prim.Native.Nat.{ℕ}
 use lib.Dec.{eqb}
-use Rattle.sos.specs.{Shares.shareOfL1, Shares.shareOfL2}
-use Rattle.grids.specs.{Classes.classOf}
-use Rattle.grids.specs.Cells.{NA, cellOf, measureOf, aspectOf}
-use Rattle.sos.specs.declared.shares.Share.{Share, the-variants.Nothing, the-variants.NoPosition, the-variants.Order}
-use Rattle.kinds.specs.{Kinds.locoInRange, Ranges.isGrid}
-use Rattle.trains.specs.{Orders.hasPlace, Orders.withOrder}
-use Rattle.kinds.specs.declared.{Ticket.Ticket}
-use Rattle.trains.specs.declared.{record.Train.Train}
+use Rattle.sos.specs.{Shares.shareOfL1, Shares.shareOfL2, declared.shares.Share.Share}
+use Rattle.sos.specs.declared.shares.Share.the-variants.{Nothing, NoPosition, Order}
+use Rattle.grids.specs.{Classes.classOf, Cells.NA, Cells.cellOf, Cells.measureOf, Cells.aspectOf}
+use Rattle.kinds.specs.{Kinds.locoInRange, Ranges.isGrid, declared.Ticket.Ticket}
+use Rattle.trains.specs.{Orders.hasPlace, Orders.withOrder, declared.record.Train.Train}
 use Rattle.rules.specs.{Effect.noSlot, Effect.change, Effect.effect, Ruling.acceptedWith, Ruling.ruling, Ruling.when}
 use Rattle.rules.specs.Refusals.{badLoco, noLiveTrain, sameTrain, badGrid, noClass, notApplicable, noPosition, noPlace}
-use Rattle.rules.specs.declared.{named.Named.Named, raising.Side.Side, ruling.Ruling.Ruling}
+use Rattle.rules.specs.{declared.named.Named.Named, declared.raising.Side.Side, declared.ruling.Ruling.Ruling}
 
 -- ---- one train
 

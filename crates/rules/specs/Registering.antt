@@ -1,16 +1,16 @@
 -- Trains come and go: REQUEST and RELEASE.
 use mathlib.Core.Bool.{true, false}
 use Prim.Native.Nat.{ℕ, suc}
-use Rattle.kinds.specs.{Found.isFound, Kinds.lastTicket, Kinds.isAbove, Kinds.locoInRange}
+use Rattle.kinds.specs.{Found.isFound, Kinds.lastTicket, Kinds.isAbove, Kinds.locoInRange, declared.Loco.Loco, declared.Slot.Slot}
+use Rattle.kinds.specs.{declared.Ticket.Ticket, declared.found.Found.Found}
+use Rattle.kinds.specs.declared.found.Found.the-variants.{Nothing, Index}
 use Rattle.trains.specs.{Record.blankTrain, Record.freshTrain, Sought.rowCount}
-use Rattle.kinds.specs.declared.{Loco.Loco, Slot.Slot, Ticket.Ticket}
-use Rattle.kinds.specs.declared.found.Found.{Found, the-variants.Nothing, the-variants.Index}
-use Rattle.trains.specs.declared.sought.Sought.{the-variants.Number, the-variants.Empty}
+use Rattle.trains.specs.declared.sought.Sought.the-variants.{Number, Empty}
 use Rattle.rules.specs.{Effect.rowAndRun, View.View, View.findIn}
 use Rattle.rules.specs.Refusals.{badLoco, badBytes, alreadyRegistered, registerFull, noTicketLeft, noFreeRun}
 use Rattle.rules.specs.Ruling.{acceptedWith, ruling, when, unless}
-use Rattle.rules.specs.Slots.{isRequest, slotsFor, lowestRun, isRunFound, startOf}
-use Rattle.rules.specs.declared.{named.Named.Named, ruling.Ruling.Ruling}
+use Rattle.rules.specs.{Slots.isRequest, Slots.slotsFor, Slots.lowestRun, Slots.isRunFound, Slots.startOf, declared.named.Named.Named}
+use Rattle.rules.specs.declared.ruling.Ruling.{Ruling}
 
 -- the ticket with a number
 abbrev pub ticketOf : ℕ → Ticket

@@ -2,11 +2,11 @@
 -- so a replay that keeps each grant's ticket is the same rule.
 use mathlib.Core.Bool.{Bool, true, false}
 use Prim.Native.Nat.{ℕ}
-use Rattle.kinds.specs.declared.{Loco.Loco, Ticket.Ticket}
-use Rattle.rules.specs.{Named.namedIn, Named.nameGround, Raising.sosGround, Raising.raised, Registering.requestGround, Registering.requested}
-use Rattle.rules.specs.{Registering.released, Ruling.ruled, View.View}
-use Rattle.rules.specs.Deeds.{Deed, done, deedGround, deedDone}
-use Rattle.rules.specs.declared.{ruling.Ruling.Ruling, settings.Settings.Settings}
+use Rattle.kinds.specs.{declared.Loco.Loco, declared.Ticket.Ticket}
+use Rattle.rules.specs.{Named.namedIn, Named.nameGround, Raising.sosGround, Raising.raised}
+use Rattle.rules.specs.{Registering.requestGround, Registering.requested, Registering.released, Ruling.ruled, View.View}
+use Rattle.rules.specs.{Deeds.Deed, Deeds.done, Deeds.deedGround, Deeds.deedDone, declared.ruling.Ruling.Ruling}
+use Rattle.rules.specs.declared.settings.Settings.{Settings}
 
 -- the operations, step-back apart; an SOS names L2 first
 pub data Op : Type 0 where

@@ -4,9 +4,8 @@ use mathlib.Core.Bool.{Bool, cond}
 use Prim.Native.Nat.{ℕ}
 use lib.Dec.{eqb}
 use Rattle.trains.specs.{Record.blankTrain, Sought.rowCount}
-use Rattle.kinds.specs.declared.{Ticket.Ticket}
-use Rattle.rules.specs.{Effect.rowOnly}
-use Rattle.rules.specs.declared.{effect.Effect.Effect, ruling.Answer.Answer, ruling.Ruling.Ruling}
+use Rattle.kinds.specs.declared.Ticket.{Ticket}
+use Rattle.rules.specs.{Effect.rowOnly, declared.effect.Effect.Effect, declared.ruling.Answer.Answer, declared.ruling.Ruling.Ruling}
 
 -- where the test holds, its ground; else what follows in the chain of checks. 0 at its end is no ground
 unfoldable pub when : Bool → ℕ → ℕ → ℕ

@@ -1,14 +1,12 @@
 -- The slot book: how many slots a request needs, and where they are. `perSlot` is the bytes that a slot carries.
-use mathlib.Core.Bool.{Bool, true, false, not, _&&_}
-use mathlib.Core.List.{List}
+use mathlib.Core.{Bool.Bool, Bool.true, Bool.false, Bool.not, Bool._&&_, List.List}
 use Prim.Native.Nat.{ℕ, zero, suc, _+_, _-_, _*_, _/_}
-use Rattle.kinds.specs.{Found.first, Kinds.lastSlot, Kinds.slotInRange, Ranges.oneTo, declared.Slot.Slot}
-use Rattle.kinds.specs.declared.found.Found.{Found, the-variants.Nothing, the-variants.Index}
-use Rattle.rules.specs.View.{isTaken}
-use Rattle.rules.specs.declared.slots.FreeRun.{FreeRun, the-variants.NoRun, the-variants.From}
+use Rattle.kinds.specs.{Found.first, Kinds.lastSlot, Kinds.slotInRange, Ranges.oneTo, declared.Slot.Slot, declared.found.Found.Found}
+use Rattle.kinds.specs.declared.found.Found.the-variants.{Nothing, Index}
+use Rattle.rules.specs.{View.isTaken, declared.slots.FreeRun.FreeRun}
+use Rattle.rules.specs.declared.slots.FreeRun.the-variants.{NoRun, From}
 
--- a request may need six slots
-abbrev pub mostSlots : ℕ
+abbrev pub mostSlots : ℕ  -- a request may need six slots
 mostSlots = 6
 
 -- a request is for 1 byte to six slots' worth

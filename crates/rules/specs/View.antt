@@ -1,13 +1,9 @@
 -- THE VIEW, all that the rules look at beside the ticket counter: the register's trains and the slot book. There is no byte in it.
-use mathlib.Core.Bool.{Bool, not, _&&_}
-use mathlib.Core.List.{List}
+use mathlib.Core.{Bool.Bool, Bool.not, Bool._&&_, List.List}
 use Prim.Native.Nat.{ℕ, _-_}
-use lib.Dec.{eqb}
-use lib.ListN.{getD}
-use Rattle.kinds.specs.{Found.first, Kinds.slotInRange}
-use Rattle.trains.specs.{Record.blankTrain, Sought.rowCount, Sought.isSought}
-use Rattle.kinds.specs.declared.{found.Found.Found, Slot.Slot}
-use Rattle.trains.specs.declared.{record.Train.Train, sought.Sought.Sought}
+use lib.{Dec.eqb, ListN.getD}
+use Rattle.kinds.specs.{Found.first, Kinds.slotInRange, declared.found.Found.Found, declared.Slot.Slot}
+use Rattle.trains.specs.{Record.blankTrain, Sought.rowCount, Sought.isSought, declared.record.Train.Train, declared.sought.Sought.Sought}
 
 -- the 24 rows, and for each of the 44 slots a mark: 0 where it is free
 pub record View : Type 0 where

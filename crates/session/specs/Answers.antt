@@ -1,15 +1,9 @@
 -- THE CONTRACTS' DEFINITIONS: what a call answers, and the lent bytes after it, for all bytes. A refusal leaves them as they were.
-use mathlib.Core.Bool.{cond}
-use mathlib.Core.List.{List}
+use mathlib.Core.{Bool.cond, List.List}
 use Prim.Native.Nat.{ℕ}
-use Rattle.kinds.specs.declared.Loco.{Loco}
-use Rattle.kinds.specs.declared.Ticket.{Ticket}
-use Rattle.rules.specs.Rules.{Op}
-use Rattle.rules.specs.Ruling.{acceptedWith, accepts}
-use Rattle.rules.specs.declared.ruling.Answer.{Answer}
-use Rattle.rules.specs.declared.ruling.Ruling.{Ruling}
-use Rattle.store.specs.Emptied.{emptied}
-use Rattle.store.specs.Layout.{isSession}
+use Rattle.kinds.specs.{declared.Loco.Loco, declared.Ticket.Ticket}
+use Rattle.rules.specs.{Rules.Op, Ruling.acceptedWith, Ruling.accepts, declared.ruling.Answer.Answer, declared.ruling.Ruling.Ruling}
+use Rattle.store.specs.{Emptied.emptied, Layout.isSession}
 use Rattle.ledger.specs.Settled.{settledIn}
 use Rattle.judging.specs.Judged.{judged, endJudged}
 use Rattle.settings.specs.Usual.{usual}

@@ -2,10 +2,8 @@
 use mathlib.Core.Bool.{cond}
 use Prim.Native.Nat.{ℕ, _-_}
 use lib.Dec.{eqb}
-use Rattle.trains.specs.declared.record.Limit.the-variants.{Bare, To}
-use Rattle.trains.specs.declared.record.Position.{Position}
-use Rattle.trains.specs.declared.record.Position.the-variants.{Unknown, Between}
-use Rattle.trains.specs.declared.record.Train.{Train}
+use Rattle.trains.specs.{declared.record.Limit.the-variants.Bare, declared.record.Limit.the-variants.To, declared.record.Position.Position}
+use Rattle.trains.specs.{declared.record.Position.the-variants.Unknown, declared.record.Position.the-variants.Between, declared.record.Train.Train}
 use Rattle.sos.specs.declared.shares.Share.{Share}
 use Rattle.sos.specs.declared.shares.Share.the-variants.{Nothing, NoPosition, Order}
 

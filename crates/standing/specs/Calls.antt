@@ -4,8 +4,7 @@ use Prim.Native.Nat.{ℕ}
 use Rattle.replay.specs.Demand3.{Call, History}
 use Rattle.rules.specs.Rules.{Op}
 use Rattle.settings.specs.Usual.{usual}
-use Rattle.standing.specs.Said.{said}
-use Rattle.standing.specs.Standing.{rules, answered, bytesLeft}
+use Rattle.standing.specs.{Said.said, Standing.rules, Standing.answered, Standing.bytesLeft}
 
 -- the calls with their answers
 unfoldable pub history : List ℕ → List (Call Op) → History (rules usual)

@@ -2,12 +2,9 @@
 -- leaves. That the functions' own contracts say the same is proofs/Links.antt.
 use mathlib.Core.List.{List}
 use Prim.Native.Nat.{ℕ}
-use Rattle.kinds.specs.declared.Loco.{Loco}
-use Rattle.kinds.specs.declared.Ticket.{Ticket}
+use Rattle.kinds.specs.{declared.Loco.Loco, declared.Ticket.Ticket}
 use Rattle.replay.specs.Demand3.{Call, op, back}
-use Rattle.rules.specs.Deeds.{meant}
-use Rattle.rules.specs.Rules.{Op, request, release, on, sos}
-use Rattle.rules.specs.declared.deeds.Deed.{Deed}
+use Rattle.rules.specs.{Deeds.meant, Rules.Op, Rules.request, Rules.release, Rules.on, Rules.sos, declared.deeds.Deed.Deed}
 use Rattle.rules.specs.declared.ruling.Answer.{Answer}
 use Rattle.session.specs.Answers.{startAnswer, startAfter}
 use Rattle.standing.specs.Standing.{answered, bytesLeft}

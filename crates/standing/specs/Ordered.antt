@@ -2,8 +2,7 @@
 use mathlib.Core.List.{List}
 use Prim.Native.Nat.{ℕ}
 use Rattle.order.specs.InOrder.{InOrder}
-use Rattle.store.specs.Tidy.{Tidy}
-use Rattle.store.specs.Stands.{viewOf, counterOf}
+use Rattle.store.specs.{Tidy.Tidy, Stands.viewOf, Stands.counterOf}
 
 pub record Ordered (bs : List ℕ) : Type 0 where
   pub order : InOrder (counterOf bs) (viewOf bs)

@@ -3,9 +3,7 @@
 use mathlib.Core.Bool.{cond}
 use Prim.Native.Nat.{ℕ}
 use Rattle.replay.specs.Demand3.{Call, op, back, Answer as Words, took, wentBack, refused}
-use Rattle.rules.specs.Rules.{Op, grants}
-use Rattle.rules.specs.Ruling.{acceptedWith, refusedWith, accepts}
-use Rattle.rules.specs.declared.ruling.Answer.{Answer}
+use Rattle.rules.specs.{Rules.Op, Rules.grants, Ruling.acceptedWith, Ruling.refusedWith, Ruling.accepts, declared.ruling.Answer.Answer}
 
 -- the three numbers of an answer
 pub record Reply : Type 0 where

@@ -1,24 +1,14 @@
 -- The session as demand 3 sees it: its rules are those of the papers, and what a call did to the lent bytes is what the contracts of session's
 -- operations name (the step back is one of them).
-use mathlib.Core.Path.{_≡_}
-use mathlib.Core.Bool.{cond}
-use mathlib.Core.List.{List}
+use mathlib.Core.{Path._≡_, Bool.cond, List.List}
 use Prim.Native.Nat.{ℕ}
 use Rattle.replay.specs.Rules.{Rules, Outcome, refuse, accept, justBelow}
 use Rattle.replay.specs.Demand3.{Call, op, back, Session}
 use Rattle.kinds.specs.Kinds.{lastTicket}
-use Rattle.rules.specs.Effect.{applied}
-use Rattle.rules.specs.Refusals.{tooFarBack}
-use Rattle.rules.specs.Registering.{ticketOf, ticketFor}
-use Rattle.rules.specs.Rules.{Op, grants, rule}
-use Rattle.rules.specs.Ruling.{accepts}
-use Rattle.rules.specs.View.{View}
-use Rattle.rules.specs.declared.ruling.Answer.{Answer}
-use Rattle.rules.specs.declared.ruling.Ruling.{Ruling}
-use Rattle.rules.specs.declared.settings.Settings.{Settings}
+use Rattle.rules.specs.{Effect.applied, Refusals.tooFarBack, Registering.ticketOf, Registering.ticketFor, Rules.Op, Rules.grants, Rules.rule}
+use Rattle.rules.specs.{Ruling.accepts, View.View, declared.ruling.Answer.Answer, declared.ruling.Ruling.Ruling, declared.settings.Settings.Settings}
 use Rattle.order.specs.Sound.{Sound}
-use Rattle.store.specs.Lent.{Lent}
-use Rattle.store.specs.Stands.{viewOf, counterOf}
+use Rattle.store.specs.{Lent.Lent, Stands.viewOf, Stands.counterOf}
 use Rattle.entries.specs.Entry.{Entry, saved, undone}
 use Rattle.ledger.specs.Log.{logOf}
 use Rattle.session.specs.Answers.{answerTo, bytesAfter}

@@ -1,13 +1,9 @@
 -- STEP-BACK of lent bytes, for all bytes and all k; and what is answered where the bytes are no session.
-use mathlib.Core.Bool.{cond}
-use mathlib.Core.List.{List}
+use mathlib.Core.{Bool.cond, List.List}
 use Prim.Native.Nat.{ℕ, _-_}
 use lib.Dec.{ltb}
-use Rattle.rules.specs.Refusals.{wrongLength, tooFarBack}
-use Rattle.rules.specs.Ruling.{acceptedWith, refusedWith}
-use Rattle.rules.specs.declared.ruling.Answer.{Answer}
-use Rattle.store.specs.Layout.{isSession}
-use Rattle.store.specs.Stands.{keptOf}
+use Rattle.rules.specs.{Refusals.wrongLength, Refusals.tooFarBack, Ruling.acceptedWith, Ruling.refusedWith, declared.ruling.Answer.Answer}
+use Rattle.store.specs.{Layout.isSession, Stands.keptOf}
 use Rattle.ledger.specs.Back.{steppedIn}
 
 -- an answer where the lent bytes are as long as a session; any other length is refused

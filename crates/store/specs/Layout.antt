@@ -1,10 +1,8 @@
 -- Where everything stands in a session's bytes: the ticket counter, the entries kept and the notch that the next entry goes to, 4 bytes each;
 -- the slot book, a byte for each slot; the register; and the log's ring, whose notches hold an entry each.
-use mathlib.Core.Bool.{Bool}
-use mathlib.Core.List.{List}
+use mathlib.Core.{Bool.Bool, List.List}
 use Prim.Native.Nat.{ℕ, _+_, _*_}
-use lib.Dec.{eqb}
-use lib.ListN.{length}
+use lib.{Dec.eqb, ListN.length}
 use Rattle.replay.specs.Demand3.{depth}
 use Rattle.rows.specs.Row.{rowBytes}
 use Rattle.kinds.specs.Kinds.{lastSlot}
@@ -12,50 +10,40 @@ use Rattle.trains.specs.Sought.{rowCount}
 
 -- ---- the header, the book and the register
 
--- the bytes of a number of the header
-abbrev pub wordBytes : ℕ
+abbrev pub wordBytes : ℕ  -- the bytes of a number of the header
 wordBytes = 4
 
--- the ticket counter
-abbrev pub counterAt : ℕ
+abbrev pub counterAt : ℕ  -- the ticket counter
 counterAt = 0
 
--- the number of entries kept
-abbrev pub keptAt : ℕ
+abbrev pub keptAt : ℕ  -- the number of entries kept
 keptAt = counterAt + wordBytes
 
--- the notch of the ring that the next entry goes to
-abbrev pub headAt : ℕ
+abbrev pub headAt : ℕ  -- the notch of the ring that the next entry goes to
 headAt = keptAt + wordBytes
 
--- the slot book
-abbrev pub bookAt : ℕ
+abbrev pub bookAt : ℕ  -- the slot book
 bookAt = headAt + wordBytes
 
--- the register
-abbrev pub registerAt : ℕ
+abbrev pub registerAt : ℕ  -- the register
 registerAt = bookAt + lastSlot
 
 -- row i of the register, counted from 0
 abbrev pub rowOffset : ℕ → ℕ
 rowOffset i = registerAt + rowBytes * i
 
--- the log, behind the last row
-abbrev pub logAt : ℕ
+abbrev pub logAt : ℕ  -- the log, behind the last row
 logAt = rowOffset rowCount
 
 -- ---- an entry of the log
 
--- the run of slots that was marked: its start, its slots, and its mark before, a byte each
-abbrev pub runBytes : ℕ
+abbrev pub runBytes : ℕ  -- the run of slots that was marked: its start, its slots, and its mark before, a byte each
 runBytes = 3
 
--- a row's number and that row, as an entry keeps them
-abbrev pub keptRowBytes : ℕ
+abbrev pub keptRowBytes : ℕ  -- a row's number and that row, as an entry keeps them
 keptRowBytes = 1 + rowBytes
 
--- the run, the row that changed, and a second row
-abbrev pub entryBytes : ℕ
+abbrev pub entryBytes : ℕ  -- the run, the row that changed, and a second row
 entryBytes = runBytes + keptRowBytes + keptRowBytes
 
 -- the entry in a notch of the ring
@@ -80,8 +68,7 @@ alsoAt e = changedAt e + keptRowBytes
 
 -- ---- the session
 
--- the bytes of a session: the ring has as many notches as the log is deep
-abbrev pub sessionBytes : ℕ
+abbrev pub sessionBytes : ℕ  -- the bytes of a session: the ring has as many notches as the log is deep
 sessionBytes = entryOffset depth
 
 -- the bytes are as many as a session has

@@ -1,6 +1,5 @@
 -- The bytes of a session, as they are lent: as many as it has, and each of them a byte.
-use mathlib.Core.List.{List}
-use mathlib.Core.Path.{_≡_}
+use mathlib.Core.{List.List, Path._≡_}
 use Prim.Native.Nat.{ℕ, _<_}
 use lib.ListN.{length, getD}
 use Rattle.store.specs.Layout.{sessionBytes}

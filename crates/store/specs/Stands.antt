@@ -7,10 +7,8 @@ use Rattle.numbers.specs.Numbers.{numberAt}
 use Rattle.replay.specs.Demand3.{depth}
 use Rattle.register.specs.Register.{rowOf}
 use Rattle.rules.specs.View.{View}
-use Rattle.kinds.specs.Kinds.{lastSlot}
-use Rattle.trains.specs.Sought.{rowCount}
-use Rattle.kinds.specs.declared.Ticket.{Ticket}
-use Rattle.trains.specs.declared.record.Train.{Train}
+use Rattle.kinds.specs.{Kinds.lastSlot, declared.Ticket.Ticket}
+use Rattle.trains.specs.{Sought.rowCount, declared.record.Train.Train}
 use Rattle.store.specs.Layout.{wordBytes, counterAt, keptAt, headAt, bookAt, registerAt}
 
 -- n rows of the register from row i on

@@ -1,6 +1,5 @@
 -- Bytes that say what they stand for in one way only: rows without stray bytes behind a flag, and a book of noughts and ones.
-use mathlib.Core.List.{List}
-use mathlib.Core.Path.{_≡_}
+use mathlib.Core.{List.List, Path._≡_}
 use Prim.Native.Nat.{ℕ, _+_, _<_, _≤_}
 use lib.ListN.{getD}
 use Rattle.replay.specs.Demand3.{depth}

@@ -1,18 +1,13 @@
 -- The effective end of a train's authority: none while none is granted; else the nearest of the granted end, the danger
 -- location unless the mode is OV, and each order's limit.
-use mathlib.Core.Bool.{cond}
-use mathlib.Core.List.{List, [], _∷_}
+use mathlib.Core.{Bool.cond, List.List, List.[], List._∷_}
 use Prim.Native.Nat.{ℕ, zero, suc, min}
 use lib.Dec.{eqb}
 use Rattle.transitions.specs.Names.{OV}
-use Rattle.trains.specs.declared.record.Limit.{Limit}
-use Rattle.trains.specs.declared.record.Limit.the-variants.{Bare, To}
-use Rattle.trains.specs.declared.record.Order.{Order}
-use Rattle.kinds.specs.declared.ranges.Location.{Location}
-use Rattle.kinds.specs.declared.ranges.Location.the-variants.{Nowhere, At}
-use Rattle.trains.specs.declared.record.Train.{Train}
+use Rattle.trains.specs.{declared.record.Limit.Limit, declared.record.Limit.the-variants.Bare, declared.record.Limit.the-variants.To}
+use Rattle.trains.specs.{declared.record.Order.Order, declared.record.Train.Train, Record.noTicket, Record.orderCount, Record.orderAt}
+use Rattle.kinds.specs.{declared.ranges.Location.Location, declared.ranges.Location.the-variants.Nowhere, declared.ranges.Location.the-variants.At}
 use Rattle.kinds.specs.Kinds.{sameTicket}
-use Rattle.trains.specs.Record.{noTicket, orderCount, orderAt}
 
 -- an end, or a stop that lies nearer: locations rise ahead
 unfoldable pub nearer : ℕ → Location → ℕ

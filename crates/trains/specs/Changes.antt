@@ -1,13 +1,10 @@
 -- A train record with one part changed. Loco, ticket and slots never change.
-use mathlib.Core.Bool.{cond}
-use mathlib.Core.List.{List}
+use mathlib.Core.{Bool.cond, List.List}
 use Prim.Native.Nat.{ℕ}
 use lib.Dec.{eqb}
 use Rattle.transitions.specs.Names.{OV}
 use Rattle.kinds.specs.declared.ranges.Location.{Location}
-use Rattle.trains.specs.declared.record.Position.the-variants.{Between}
-use Rattle.trains.specs.declared.record.Order.{Order}
-use Rattle.trains.specs.declared.record.Track.{Track}
+use Rattle.trains.specs.{declared.record.Position.the-variants.Between, declared.record.Order.Order, declared.record.Track.Track}
 use Rattle.trains.specs.declared.record.Train.{Train}
 
 -- the same train with the mode, the mode left, the track and the orders given

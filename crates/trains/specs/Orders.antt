@@ -1,18 +1,10 @@
 -- The four orders of a train: the place of each, an order put, an order cleared.
-use mathlib.Core.Bool.{Bool, cond}
-use mathlib.Core.List.{List}
-use mathlib.Core.Path.{_≡_}
+use mathlib.Core.{Bool.Bool, Bool.cond, List.List, Path._≡_}
 use Prim.Native.Nat.{ℕ, _<_}
 use lib.ListN.{set}
-use Rattle.kinds.specs.declared.found.Found.{Found}
-use Rattle.kinds.specs.declared.found.Found.the-variants.{Nothing, Index}
-use Rattle.kinds.specs.declared.Ticket.{Ticket}
-use Rattle.trains.specs.declared.record.Limit.{Limit}
-use Rattle.trains.specs.declared.record.Order.{Order}
-use Rattle.trains.specs.declared.record.Train.{Train}
-use Rattle.trains.specs.Changes.{changed}
-use Rattle.kinds.specs.Found.{first, isFound, orElse}
-use Rattle.kinds.specs.Kinds.{sameTicket}
+use Rattle.kinds.specs.{declared.found.Found.Found, declared.found.Found.the-variants.Nothing, declared.found.Found.the-variants.Index}
+use Rattle.kinds.specs.{declared.Ticket.Ticket, Found.first, Found.isFound, Found.orElse, Kinds.sameTicket}
+use Rattle.trains.specs.{declared.record.Limit.Limit, declared.record.Order.Order, declared.record.Train.Train, Changes.changed}
 use Rattle.trains.specs.Record.{noTicket, noOrder, orderCount, orderAt}
 
 -- the order at place i, 0 to 3, stands under the ticket

@@ -1,19 +1,12 @@
 -- The records that are made anew: no order, a blank row's record, and a train just granted.
-use mathlib.Core.Bool.{Bool}
-use mathlib.Core.List.{List, [], _∷_}
+use mathlib.Core.{Bool.Bool, List.List, List.[], List._∷_}
 use Prim.Native.Nat.{ℕ}
 use lib.ListN.{getD}
 use Rattle.transitions.specs.Names.{SB}
-use Rattle.kinds.specs.declared.Loco.{Loco}
-use Rattle.kinds.specs.declared.Ticket.{Ticket}
-use Rattle.kinds.specs.declared.Slot.{Slot}
-use Rattle.kinds.specs.declared.ranges.Location.the-variants.{Nowhere}
-use Rattle.trains.specs.declared.record.Position.the-variants.{Unknown}
-use Rattle.trains.specs.declared.record.Limit.the-variants.{Bare}
-use Rattle.trains.specs.declared.record.Order.{Order}
-use Rattle.trains.specs.declared.record.Track.{Track}
-use Rattle.trains.specs.declared.record.Train.{Train}
+use Rattle.kinds.specs.{declared.Loco.Loco, declared.Ticket.Ticket, declared.Slot.Slot, declared.ranges.Location.the-variants.Nowhere}
 use Rattle.kinds.specs.Kinds.{noLoco, sameLoco}
+use Rattle.trains.specs.{declared.record.Position.the-variants.Unknown, declared.record.Limit.the-variants.Bare, declared.record.Order.Order}
+use Rattle.trains.specs.{declared.record.Track.Track, declared.record.Train.Train}
 
 -- the ticket that no grant gives: an order under it is none
 abbrev pub noTicket : Ticket
@@ -23,8 +16,7 @@ noTicket = record { 0 = 0 }
 abbrev pub noOrder : Order
 noOrder = record { other = noTicket; limit = Bare }
 
--- a train has four places for orders
-abbrev pub orderCount : ℕ
+abbrev pub orderCount : ℕ  -- a train has four places for orders
 orderCount = 4
 
 -- the order at a place, 0 to 3

@@ -1,15 +1,12 @@
 -- The rows of the register, and what a search of them looks for.
 use mathlib.Core.Bool.{Bool, not, _&&_}
 use Prim.Native.Nat.{ℕ}
-use Rattle.kinds.specs.declared.Loco.{Loco}
-use Rattle.trains.specs.declared.record.Train.{Train}
-use Rattle.trains.specs.declared.sought.Sought.{Sought}
+use Rattle.kinds.specs.{declared.Loco.Loco, Kinds.noLoco, Kinds.sameLoco, Kinds.sameTicket, Kinds.ticketInRange}
+use Rattle.trains.specs.{declared.record.Train.Train, declared.sought.Sought.Sought}
 use Rattle.trains.specs.declared.sought.Sought.the-variants.{Pair, Number, Empty}
-use Rattle.kinds.specs.Kinds.{noLoco, sameLoco, sameTicket, ticketInRange}
 use Rattle.trains.specs.Record.{isEmpty}
 
--- 24 trains at most: the rows of a register
-abbrev pub rowCount : ℕ
+abbrev pub rowCount : ℕ  -- 24 trains at most: the rows of a register
 rowCount = 24
 
 -- a row's loco number is the one wanted, and the row is not empty

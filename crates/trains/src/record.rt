@@ -4,7 +4,7 @@ use kinds::Slot;
 use kinds::Ticket;
 use kinds::ranges::Location;
 ghost use mathlib.Core.Path.{_≡_};
-ghost use Rattle.trains.specs.Record.{noOrder, noTrack, plainTrain, blankTrain, freshTrain, isEmpty};
+ghost use Rattle.trains.specs.Record.{noOrder, noTrack, plainTrain, blankTrain, freshTrain};
 
 // Front and rear, or none reported.
 pub enum Position {
@@ -98,11 +98,5 @@ impl Train {
         ensures { λ r. ⌜ r ≡ freshTrain loco ticket start slots ⌝ }
     {
         Train::plain(loco, ticket, start, slots, transitions::names::SB)
-    }
-
-    pub fn is_empty(self) -> bool
-        ensures { λ r. ⌜ r ≡ isEmpty self ⌝ }
-    {
-        self.loco.is_none()
     }
 }

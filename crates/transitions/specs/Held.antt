@@ -1,13 +1,10 @@
 -- How the code holds the table: each transition by its bytes, those of a mode together.
-use mathlib.Core.Bool.{cond}
-use mathlib.Core.List.{List, [], _∷_, _++_, map}
+use mathlib.Core.{Bool.cond, List.List, List.[], List._∷_, List._++_, List.map}
 use Prim.Native.Nat.{ℕ}
-use lib.Dec.{eqb, ltb}
-use lib.ListN.{length, take, drop, replicate}
+use lib.{Dec.eqb, Dec.ltb, ListN.length, ListN.take, ListN.drop, ListN.replicate}
 use Rattle.transitions.specs.Table.{Transition, table, those}
 
--- so many bytes a transition takes
-abbrev pub transitionBytes : ℕ
+abbrev pub transitionBytes : ℕ  -- so many bytes a transition takes
 transitionBytes = 11
 
 -- the bytes of a transition: target, priority, then the conditions, filled up with zeros

@@ -1,54 +1,41 @@
 -- The modes by their numbers (document 01, "Modes").
 use Prim.Native.Nat.{ℕ}
 
--- standby
-abbrev pub SB : ℕ
+abbrev pub SB : ℕ  -- standby
 SB = 1
 
--- staff responsible
-abbrev pub SR : ℕ
+abbrev pub SR : ℕ  -- staff responsible
 SR = 2
 
--- limited supervision
-abbrev pub LS : ℕ
+abbrev pub LS : ℕ  -- limited supervision
 LS = 3
 
--- full supervision
-abbrev pub FS : ℕ
+abbrev pub FS : ℕ  -- full supervision
 FS = 4
 
--- override
-abbrev pub OV : ℕ
+abbrev pub OV : ℕ  -- override
 OV = 5
 
--- on sight
-abbrev pub OS : ℕ
+abbrev pub OS : ℕ  -- on sight
 OS = 6
 
--- trip
-abbrev pub TR : ℕ
+abbrev pub TR : ℕ  -- trip
 TR = 7
 
--- post trip
-abbrev pub PT : ℕ
+abbrev pub PT : ℕ  -- post trip
 PT = 8
 
--- reverse
-abbrev pub RV : ℕ
+abbrev pub RV : ℕ  -- reverse
 RV = 9
 
--- shunt
-abbrev pub SH : ℕ
+abbrev pub SH : ℕ  -- shunt
 SH = 10
 
--- non leading
-abbrev pub NL : ℕ
+abbrev pub NL : ℕ  -- non leading
 NL = 11
 
--- system failure
-abbrev pub SF : ℕ
+abbrev pub SF : ℕ  -- system failure
 SF = 12
 
--- isolation
-abbrev pub IS : ℕ
+abbrev pub IS : ℕ  -- isolation
 IS = 13

@@ -1,6 +1,5 @@
 -- The transitions between modes (document 000, A1.4), as document 01 writes them.
-use mathlib.Core.Bool.{Bool, cond}
-use mathlib.Core.List.{List, [], _∷_, _++_, map}
+use mathlib.Core.{Bool.Bool, Bool.cond, List.List, List.[], List._∷_, List._++_, List.map}
 use Prim.Native.Nat.{ℕ}
 use lib.Dec.{eqb}
 use Rattle.transitions.specs.Names.{SB, SR, LS, FS, OV, OS, TR, PT, RV, SH, NL, SF, IS}
@@ -20,12 +19,10 @@ to target conditions priority mode = record { leaves = mode; target = target; co
 abbrev pub from : ℕ → List (ℕ → Transition) → List Transition
 from mode line = map (λ (t : ℕ → Transition). t mode) line
 
--- so many transitions document 01 counts
-abbrev pub transitionCount : ℕ
+abbrev pub transitionCount : ℕ  -- so many transitions document 01 counts
 transitionCount = 80
 
--- so many conditions there are, numbered from 1
-abbrev pub conditionCount : ℕ
+abbrev pub conditionCount : ℕ  -- so many conditions there are, numbered from 1
 conditionCount = 91
 
 -- the thirteen lines of document 01

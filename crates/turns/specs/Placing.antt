@@ -1,12 +1,8 @@
 -- A text put into an output.
-use mathlib.Core.Bool.{cond}
-use mathlib.Core.List.{List, _++_}
-use mathlib.Core.Path.{_≡_}
+use mathlib.Core.{Bool.cond, List.List, List._++_, Path._≡_}
 use Prim.Native.Nat.{ℕ, _+_, _≤_}
-use lib.Dec.{leb}
-use lib.ListN.{length, take, drop}
-use Rattle.lines.specs.Line.{room, IsLineOf}
-use Rattle.lines.specs.declared.line.Line.{Line}
+use lib.{Dec.leb, ListN.length, ListN.take, ListN.drop}
+use Rattle.lines.specs.{Line.room, Line.IsLineOf, declared.line.Line.Line}
 
 -- a text put at an offset of an output, where all of it fits; otherwise the output as it was
 unfoldable pub putAt : List ℕ → ℕ → List ℕ → List ℕ

@@ -1,9 +1,7 @@
 -- ONE TURN of a listing: what it tells of the record that was run.
-use mathlib.Core.Bool.{Bool, cond}
-use mathlib.Core.List.{List}
+use mathlib.Core.{Bool.Bool, Bool.cond, List.List}
 use Prim.Native.Nat.{ℕ}
-use lib.Dec.{eqb}
-use lib.ListN.{length}
+use lib.{Dec.eqb, ListN.length}
 use Rattle.lines.specs.Text.{recordLine}
 use Rattle.records.specs.declared.told.Ran.{Ran}
 use Rattle.turns.specs.declared.Turn.{Turn}
