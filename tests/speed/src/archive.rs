@@ -8,6 +8,14 @@ const SESSION: usize = SESSION_SIZE as usize;
 
 #[repr(C)]
 #[derive(Clone, Copy, Default)]
+pub struct FrameAnswer {
+    pub answer: u32,
+    pub offset: usize,
+    pub length: usize,
+}
+
+#[repr(C)]
+#[derive(Clone, Copy, Default)]
 pub struct GatesAnswer {
     pub answer: u32,
     pub gates: usize,
@@ -42,6 +50,7 @@ pub struct RecordAnswer {
 }
 
 extern "C" {
+    fn kb_frame(to: *mut FrameAnswer, bytes: *const u8, bytes_len: usize) -> *mut FrameAnswer;
     fn kb_read_gates(
         to: *mut GatesAnswer,
         bytes: *const u8,
@@ -77,6 +86,12 @@ extern "C" {
         before: u32,
     ) -> *mut RecordAnswer;
     fn kb_end(session: *const u8, len: usize, loco: u32, ticket: u32) -> Answer;
+}
+
+pub fn frame(bytes: &[u8]) -> FrameAnswer {
+    let mut to = FrameAnswer::default();
+    unsafe { kb_frame(&mut to, bytes.as_ptr(), bytes.len()) };
+    to
 }
 
 pub fn read_gates(bytes: &[u8], gates: &mut [u8]) -> GatesAnswer {

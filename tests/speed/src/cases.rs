@@ -1,6 +1,7 @@
-//! What is timed: each case once with the archive and once with the model. A case is a round that can be repeated.
+//! What is timed: each case once with the archive and once with the model, and those of gates once with the tuned peer. A case is a
+//! round that can be repeated.
 
-use crate::archive;
+use crate::{archive, peer};
 use bench_model::session::{Pair, Session};
 use bench_model::{clock, modes, packets};
 use std::cell::RefCell;
@@ -19,18 +20,25 @@ fn alone(round: impl FnMut() + 'static) -> Rounds {
     Rounds { before: None, round: Box::new(round) }
 }
 
-/// The same rounds made for the archive and for the model, given a number of gates or trains.
-type Makers = (fn(u32) -> Rounds, fn(u32) -> Rounds);
+/// Makes rounds, given a number of gates or trains.
+type Maker = fn(u32) -> Rounds;
+/// The same rounds made for the archive and for the model.
+type Makers = (Maker, Maker);
 
 pub struct Case {
     pub name: String,
     makers: Makers,
+    peer: Option<Maker>,
     size: u32,
 }
 
 impl Case {
     fn new(name: impl Into<String>, size: u32, makers: Makers) -> Case {
-        Case { name: name.into(), makers, size }
+        Case { name: name.into(), makers, peer: None, size }
+    }
+
+    fn with_peer(self, peer: Maker) -> Case {
+        Case { peer: Some(peer), ..self }
     }
 
     pub fn ours(&self) -> Rounds {
@@ -40,6 +48,30 @@ impl Case {
     pub fn model(&self) -> Rounds {
         (self.makers.1)(self.size)
     }
+
+    pub fn peer(&self) -> Option<Rounds> {
+        self.peer.map(|peer| peer(self.size))
+    }
+}
+
+/// A round that reads a sub-packet of so many gates.
+macro_rules! reading {
+    ($read:path) => {
+        |count| {
+            let (packet, mut gates) = (packet(count), vec![0; 252]);
+            alone(move || assert_eq!($read(black_box(&packet), &mut gates).answer, 0))
+        }
+    };
+}
+
+/// A round that writes one.
+macro_rules! writing {
+    ($write:path) => {
+        |count| {
+            let (gates, mut packet) = (gates(count), vec![0; 125]);
+            alone(move || assert_eq!($write(black_box(&gates), &mut packet).answer, 0))
+        }
+    };
 }
 
 /// A round on a session of so many trains, of which the last is named.
@@ -112,31 +144,29 @@ fn model_with(trains: u32) -> (Session, Pair) {
     (session, name(trains))
 }
 
+/// A round that frames a sub-packet of so many gates.
+fn framing() -> Makers {
+    (
+        |count| {
+            let packet = packet(count);
+            alone(move || assert_eq!(archive::frame(black_box(&packet)).length, packet.len()))
+        },
+        |count| {
+            let packet = packet(count);
+            alone(move || assert_eq!(packets::frame(black_box(&packet)).1.len(), packet.len()))
+        },
+    )
+}
+
 fn packet_cases() -> Vec<Case> {
-    let read: Makers = (
-        |count| {
-            let (packet, mut gates) = (packet(count), vec![0; 252]);
-            alone(move || assert_eq!(archive::read_gates(black_box(&packet), &mut gates).answer, 0))
-        },
-        |count| {
-            let (packet, mut gates) = (packet(count), vec![0; 252]);
-            alone(move || assert_eq!(packets::read_gates(black_box(&packet), &mut gates).answer, 0))
-        },
-    );
-    let write: Makers = (
-        |count| {
-            let (gates, mut packet) = (gates(count), vec![0; 125]);
-            alone(move || assert_eq!(archive::write_gates(black_box(&gates), &mut packet).answer, 0))
-        },
-        |count| {
-            let (gates, mut packet) = (gates(count), vec![0; 125]);
-            alone(move || assert_eq!(packets::write_gates(black_box(&gates), &mut packet).answer, 0))
-        },
-    );
+    let read: Makers = (reading!(archive::read_gates), reading!(packets::read_gates));
+    let write: Makers = (writing!(archive::write_gates), writing!(packets::write_gates));
     let counts = [0, 1, 28];
-    let reads = counts.map(|count| Case::new(format!("gate read, gates: {count}"), count, read));
-    let writes = counts.map(|count| Case::new(format!("gate write, gates: {count}"), count, write));
-    reads.into_iter().chain(writes).collect()
+    let case = |what, count, makers| Case::new(format!("gate {what}, gates: {count}"), count, makers);
+    let reads = counts.map(|count| case("read", count, read).with_peer(reading!(peer::read_gates)));
+    let writes = counts.map(|count| case("write", count, write).with_peer(writing!(peer::write_gates)));
+    let frames = [0, 28].map(|count| Case::new(format!("framing, gates: {count}"), count, framing()));
+    frames.into_iter().chain(reads).chain(writes).collect()
 }
 
 fn plain_cases() -> Vec<Case> {

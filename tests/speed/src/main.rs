@@ -1,15 +1,19 @@
-//! Times the archive's functions beside the independent model's.
+//! Times the archive's functions beside the independent model's, and those of gates beside a tuned peer's.
 //!
-//!     bench_speed table RECORDING [COUNTS]  every case: nanoseconds of both, and the ratio; COUNTS is a file of `CASE OURS MODEL`
-//!                                           lines with instruction counts
+//!     bench_speed compare                   the peer with the model on random input: stops where they differ
+//!     bench_speed table RECORDING [COUNTS]  every case: nanoseconds of both, and the ratio; COUNTS is a file of instruction counts,
+//!                                           with a line `CASE OURS MODEL [PEER]` for each case
+//!     bench_speed peer [COUNTS]             the cases that have a peer, in the same way
 //!     bench_speed programs OURS MODEL RECORDING  both programs on a recording: the listings are compared, and the time is that of
 //!                                           a whole run, for each record
-//!     bench_speed cases                     how many cases there are
-//!     bench_speed only CASE SIDE ROUNDS     nothing but rounds of one case (0 ..) with one side (ours, model)
+//!     bench_speed cases                     a line for each case: its number (0 ..) and its sides
+//!     bench_speed only CASE SIDE ROUNDS     nothing but rounds of one case with one side (ours, model, peer)
 //!     bench_speed before CASE SIDE ROUNDS   nothing but what comes before each of those rounds
 
 mod archive;
 mod cases;
+mod comparison;
+mod peer;
 mod recordings;
 
 use cases::{Case, Rounds};
@@ -56,8 +60,7 @@ fn nanoseconds(timed: &mut Rounds, rounds: u32) -> f64 {
 }
 
 /// The median of the samples of both sides, which are taken in turn.
-fn medians(case: &Case) -> [f64; 2] {
-    let mut sides = [case.ours(), case.model()];
+fn medians(mut sides: [Rounds; 2]) -> [f64; 2] {
     let mut samples = [Vec::new(), Vec::new()];
     let rounds = sides.each_mut().map(|timed| (SAMPLE_NANOSECONDS / nanoseconds(timed, 50)).clamp(10.0, 1e4) as u32);
     for _ in 0..SAMPLES {
@@ -119,54 +122,76 @@ fn programs(ours: &str, model: &str, recording: &str) {
             samples[side].push(time / records as f64);
         }
     }
-    let time = samples.map(median);
-    println!(
-        "| the same by the program, with its listing | {:.0} | {:.0} | {:.1} | - | - | - |",
-        time[0],
-        time[1],
-        ratio(time)
-    );
+    print_row("the same by the program, with its listing", samples.map(median), None);
 }
 
-fn ratio(pair: [f64; 2]) -> f64 {
-    pair[0] / pair[1]
+/// The instruction counts of a file: for each case those of its sides, after the number of the case.
+struct Counts(Option<Vec<Vec<f64>>>);
+
+/// Where the counts of a side stand in a line.
+const OURS: usize = 1;
+const MODEL: usize = 2;
+const PEER: usize = 3;
+
+impl Counts {
+    fn from(path: &str) -> Counts {
+        let text = std::fs::read_to_string(path).expect("the file of counts");
+        let line = |line: &str| line.split(' ').map(|word| word.parse().expect("a number")).collect();
+        Counts(Some(text.lines().map(line).collect()))
+    }
+
+    /// Ours and another's.
+    fn pair(&self, case: usize, other: usize) -> Option<[f64; 2]> {
+        self.0.as_ref().map(|lines| [lines[case][OURS], lines[case][other]])
+    }
 }
 
-/// The instruction counts of a file, for each case those of both sides.
-fn counts(path: &str) -> Vec<[f64; 2]> {
-    let text = std::fs::read_to_string(path).expect("the file of counts");
-    let line = |line: &str| {
-        let words: Vec<f64> = line.split(' ').map(|word| word.parse().expect("a number")).collect();
-        [words[1], words[2]]
-    };
-    text.lines().map(line).collect()
-}
-
-fn table(recording: &str, counted: Option<Vec<[f64; 2]>>) {
-    let recording = std::fs::read(recording).expect("the recording");
-    println!("| Call | ours, ns | model, ns | ratio | ours, instructions | model, instructions | ratio |");
+fn print_heading(other: &str) {
+    println!("| Call | ours, ns | {other}, ns | ratio | ours, instructions | {other}, instructions | ratio |");
     println!("|---|---:|---:|---:|---:|---:|---:|");
+}
+
+fn print_row(name: &str, time: [f64; 2], count: Option<[f64; 2]>) {
+    let cells = |[ours, other]: [f64; 2]| format!("{ours:.0} | {other:.0} | {:.1}", ours / other);
+    println!("| {name} | {} | {} |", cells(time), count.map_or("- | - | -".into(), cells));
+}
+
+fn table(recording: &str, counts: &Counts) {
+    let recording = std::fs::read(recording).expect("the recording");
+    print_heading("model");
     for (at, case) in cases::all().iter().enumerate() {
-        let time = medians(case);
-        let counts = counted.as_ref().map_or("- | - | -".into(), |counted| {
-            let count = counted[at];
-            format!("{:.0} | {:.0} | {:.1}", count[0], count[1], ratio(count))
-        });
-        println!("| {} | {:.0} | {:.0} | {:.1} | {counts} |", case.name, time[0], time[1], ratio(time));
+        print_row(&case.name, medians([case.ours(), case.model()]), counts.pair(at, MODEL));
     }
     let (records, time) = played(&recording);
-    println!(
-        "| a record of a recording of {records} | {:.0} | {:.0} | {:.1} | - | - | - |",
-        time[0],
-        time[1],
-        ratio(time)
-    );
+    print_row(&format!("a record of a recording of {records}"), time, None);
+}
+
+fn peer_table(counts: &Counts) {
+    print_heading("peer");
+    for (at, case) in cases::all().iter().enumerate() {
+        if let Some(peer) = case.peer() {
+            print_row(&case.name, medians([case.ours(), peer]), counts.pair(at, PEER));
+        }
+    }
+}
+
+fn print_cases() {
+    for (at, case) in cases::all().iter().enumerate() {
+        println!("{at} ours model{}", if case.peer().is_some() { " peer" } else { "" });
+    }
+}
+
+fn rounds_of(case: &Case, side: &str) -> Rounds {
+    match side {
+        "ours" => case.ours(),
+        "model" => case.model(),
+        _ => case.peer().expect("a case that has a peer"),
+    }
 }
 
 /// Rounds of one case, or only what comes before each.
 fn only(at: usize, side: &str, before: bool, rounds: u32) {
-    let case = &cases::all()[at];
-    let mut timed = if side == "ours" { case.ours() } else { case.model() };
+    let mut timed = rounds_of(&cases::all()[at], side);
     for _ in 0..rounds {
         if let Some(first) = &mut timed.before {
             first();
@@ -181,15 +206,18 @@ fn main() {
     let words: Vec<String> = std::env::args().skip(1).collect();
     let words: Vec<&str> = words.iter().map(String::as_str).collect();
     match words[..] {
-        ["table", recording] => table(recording, None),
-        ["table", recording, path] => table(recording, Some(counts(path))),
+        ["compare"] => comparison::peer_with_model(),
+        ["table", recording] => table(recording, &Counts(None)),
+        ["table", recording, path] => table(recording, &Counts::from(path)),
+        ["peer"] => peer_table(&Counts(None)),
+        ["peer", path] => peer_table(&Counts::from(path)),
         ["programs", ours, model, recording] => programs(ours, model, recording),
-        ["cases"] => println!("{}", cases::all().len()),
+        ["cases"] => print_cases(),
         [what @ ("only" | "before"), at, side, rounds] => {
             only(at.parse().expect("a case"), side, what == "before", rounds.parse().expect("rounds"))
         }
         _ => eprintln!(
-            "usage: bench_speed table RECORDING [COUNTS] | programs OURS MODEL RECORDING | cases | only CASE SIDE ROUNDS | before CASE SIDE ROUNDS"
+            "usage: bench_speed compare | table RECORDING [COUNTS] | peer [COUNTS] | programs OURS MODEL RECORDING | cases | only CASE SIDE ROUNDS | before CASE SIDE ROUNDS"
         ),
     }
 }
