@@ -29,6 +29,12 @@ unfolding orElse
 orElse-go zero b e = refl
 orElse-go (suc a) b e = absurd (omega arith)
 
+-- a chain of two, and what follows
+pub orElse-assoc : (a b c : ℕ) → orElse (orElse a b) c ≡ orElse a (orElse b c)
+unfolding orElse
+orElse-assoc zero b c = refl
+orElse-assoc (suc a) b c = refl
+
 -- no refusal: the test was false
 pub refuse-none : (t : Bool) (n : ℕ) → refuse t (suc n) ≡ 0 → t ≡ false
 unfolding refuse
@@ -68,6 +74,10 @@ same a b n e = rw (eq-eqb a b e)
 pub differ : (a b n rest : ℕ) → (a ≡ b → ⊥) → suc n ≡ orElse (refuse (not (eqb a b)) (suc n)) rest
 unfolding orElse refuse
 differ a b n rest ne = rw (ne-eqb a b ne)
+
+pub last-differ : (a b n : ℕ) → (a ≡ b → ⊥) → n ≡ refuse (not (eqb a b)) n
+unfolding refuse
+last-differ a b n ne = rw (ne-eqb a b ne)
 
 -- what an answer gives where there is no refusal, and where there is one
 pub unless-none : {A : Type 0} (n : ℕ) (a b : A) → n ≡ 0 → unlessRefused n a b ≡ a

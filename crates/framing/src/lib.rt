@@ -1,17 +1,25 @@
-// The first sub-packet of lent bytes: what refuses it, and where it ends (radio annex). No crate of sub-packets knows anything of trains.
+// The first sub-packet of lent bytes: what refuses it, and where it ends (radio annex). No crate of sub-packets knows anything of trains. The
+// header is read as one number of 16 bits: its 4 highest digits are the type, the next 7 the length.
 pub mod refusals;
 
 ghost use mathlib.Core.Path.{_≡_};
 ghost use Prim.Native.Nat.{_<_};
-ghost use Rattle.framing.specs.Framing.{lengthOf, headRefusal, frameRefusal, frameOf};
+ghost use Rattle.framing.specs.Framing.{typeOf, lengthOf, headRefusal, frameRefusal, frameOf};
 
 const LAST_TYPE: u32 = 7;
+
+// The type that the header says.
+fn type_of(s: &[u8]) -> u32
+    ensures { λ r. ⌜ r ≡ typeOf (now (s .entry)) ⌝ }
+{
+    numbers::half_at(s, 0) / 4096 % 16
+}
 
 // The length that the header says, in bytes of the whole sub-packet.
 pub fn length_of(s: &[u8]) -> usize
     ensures { λ r. ⌜ (r ≡ lengthOf (now (s .entry))) × (r < 128) ⌝ }
 {
-    fields::read_field(s, 4, 7) as usize
+    (numbers::half_at(s, 0) / 32 % 128) as usize
 }
 
 // The refusal by the header, where the types from `low` to `high` are taken.
@@ -21,7 +29,7 @@ pub fn head_refusal(s: &[u8], low: u32, high: u32) -> u32
     if s.len() < 2 {
         return refusals::TOO_SHORT;
     }
-    let kind = fields::read_field(s, 0, 4);
+    let kind = type_of(s);
     if kind < low {
         return refusals::WRONG_TYPE;
     }

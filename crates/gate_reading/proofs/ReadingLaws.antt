@@ -1,40 +1,66 @@
 -- Laws of gate reading.
-use mathlib.Core.Path.{_≡_, refl, sym, ap, _∙_}
-use mathlib.Core.List.{List, _++_}
-use Prim.Native.Nat.{ℕ, suc, _+_, _-_, _*_, _/_, _%_, _≤_, _<_}
-use native.Mathlib.Nat.{zero-add}
+use mathlib.Core.Path.{_≡_, refl, sym, ap, ap₂, subst, _∙_}
+use mathlib.Core.List.{List, [], _∷_, _++_}
+use Prim.Native.Nat.{ℕ, zero, suc, _+_, _-_, _*_, _/_, _%_, _^_, _≤_, _<_}
+use native.Mathlib.Nat.{zero-add, add-suc, div-one, one-mul, lt-of-lt-of-le}
+use native.Mathlib.Numerals.{add-one}
 use native.Mathlib.Omega.{arith}
 use borrow.Author.Tests.{ltb-false, eqb-true, not-false}
-use lib.ListN.{length, getD, drop}
-use lib.Seq.{sets, sets-eq, drop-at}
+use lib.ListN.{length, getD, set, drop}
+use lib.Seq.{sets, sets-eq, slice, slice-cons, take-at}
+use lib.Pow.{shr-mod, pow-mono}
 use Rattle.numbers.specs.Fields.{field}
-use Rattle.numbers.specs.Pieces.{times, unpack}
-use Rattle.framing.specs.Refusals.{orElse}
+use Rattle.numbers.specs.Pieces.{total, times, unpack}
+use Rattle.framing.specs.Refusals.{noRoom, paddingSet, orElse, unlessRefused}
 use Rattle.framing.specs.Framing.{lengthOf}
-use Rattle.gates.specs.Gates.{countOf, gateType, distanceWidth, gateBytes, gateWidths, gateBits, sizeOf, gateRules, gateRefusal, rulesRefusal, refusedWith, acceptedWith}
+use Rattle.gates.specs.Gates.{countOf, gateType, distanceWidth, gateBytes, gateWidths, gateBits, bitsOf, sizeOf, paddingBits, gateRules, gateRefusal, rulesRefusal, refusedWith, acceptedWith}
 use Rattle.gate_reading.specs.Reading.{gatesOf, paddingOf, bodyRefusal, readRefusal, readAnswer, readInto}
+use Rattle.gate_reading.specs.Steps.{shapeRefusal, firstGates, endRefusal, digits, spread}
 use Rattle.gates.specs.declared.GatesAnswer.{GatesAnswer}
 use Rattle.numbers.proofs.FieldLaws.{field-add, field-lt}
-use Rattle.numbers.proofs.PieceLaws.{length-unpack, unpack-append, times-suc}
-use Rattle.framing.proofs.RefusalLaws.{orElse-first, orElse-then, orElse-go, ends, refuse-none, unless-none, unless-some}
+use Rattle.numbers.proofs.PieceLaws.{length-unpack, length-times, unpack-append, sets-append}
+use Rattle.numbers.proofs.WithinLaws.{cut, unpack-cut}
+use Rattle.framing.proofs.RefusalLaws.{orElse-first, orElse-then, orElse-go, orElse-assoc, next, ends, not-below, last-not-below, refuse-none, unless-none, unless-some}
 use Rattle.framing.proofs.FramingLaws.{Headed, headed}
-use Rattle.gates.proofs.GateLaws.{total-gate, length-gate, length-pieces}
+use Rattle.gates.proofs.GateLaws.{total-gate, length-pieces, rules-none}
 
--- the rules on a gate's bytes in terms of its whole fields
-pub gate-rules-at : (distance : ℕ) (s : List ℕ) (p : ℕ) → 8 ≤ distance
-    → gateRefusal (unpack s p (gateWidths distance))
-    ≡ gateRules (field s (p + distance) 10) (field s (p + distance + 10) 3) (field s (p + distance + 14) 3) (field s (p + distance + 18) 2)
-unfolding gateRefusal unpack gateWidths
-gate-rules-at distance s p h =
-    let q : ℕ = p + (distance - 8) + 8 in
-    let at : (k r w : ℕ) → r ≡ k → field s r w ≡ field s k w = λ k r w e. ap (λ (x : ℕ). field s x w) e in
-    let number : field s q 2 * 256 + field s (q + 2) 8 ≡ field s (p + distance) 10 = sym (field-add s q 2 8) ∙ at (p + distance) q 10 (omega arith) in
-    rw (
-      number,
-      at (p + distance + 10) (q + 2 + 8) 3 (omega arith),
-      at (p + distance + 14) (q + 2 + 8 + 3 + 1) 3 (omega arith),
-      at (p + distance + 18) (q + 2 + 8 + 3 + 1 + 3 + 1) 2 (omega arith),
-    )
+-- ---- gates of one number each
+
+module _ (distance : ℕ) (s : List ℕ) (wide : 8 ≤ distance) (narrow : distance ≤ 15) where
+  abbrev ws : List ℕ
+  ws = gateWidths distance
+
+  gate-digits : (p : ℕ) → unpack s p ws ≡ digits (field s p (gateBits distance))
+  unfolding cut total gateWidths
+  gate-digits p =
+      let x : ℕ = field s p (gateBits distance) in
+      let below : x < 2 ^ gateBits distance = field-lt s p (gateBits distance) in
+      let e : gateBits distance ≡ distance - 8 + 28 = omega arith in
+      let whole : x / 268435456 % 2 ^ (distance - 8) ≡ x / 268435456 = shr-mod (distance - 8) 28 (subst (λ (t : ℕ). x < 2 ^ t) e below) in
+      let small : x < 2 ^ 35 = lt-of-lt-of-le below (pow-mono {i = gateBits distance} {j = 35} (omega arith)) in
+      let byte : x / 268435456 ≡ x / 1048576 / 256 % 256 = omega (arith, small) in
+      let first = whole ∙ byte in
+      let high : x / 262144 % 4 ≡ x / 1024 % 1024 / 256 = omega arith in
+      let low : x / 1024 % 256 ≡ x / 1024 % 1024 % 256 = omega arith in
+      let last : x / 1 % 4 ≡ x % 4 = ap (λ (n : ℕ). n % 4) (div-one x) in
+      unpack-cut s p ws ∙ ap (λ (t : ℕ). cut (field s p t) ws) (total-gate distance wide)
+      ∙ (λ i. first i ∷ x / 1048576 % 256 ∷ high i ∷ low i ∷ x / 128 % 8 ∷ x / 64 % 2 ∷ x / 8 % 8 ∷ x / 4 % 2 ∷ last i ∷ [])
+
+  -- their bytes are the pieces
+  spread-unpack : (n p : ℕ) → spread (unpack s p (times n (gateBits distance ∷ []))) ≡ unpack s p (times n ws)
+  unfolding spread unpack times
+  spread-unpack zero p = refl
+  spread-unpack (suc n) p =
+      ap₂ (λ (a b : List ℕ). a ++ b) (sym (gate-digits p)) (spread-unpack n (p + gateBits distance))
+      ∙ ap (λ (t : ℕ). unpack s p ws ++ unpack s (p + t) (times n ws)) (sym (total-gate distance wide))
+      ∙ sym (unpack-append s p ws (times n ws))
+
+-- the rules on the bytes of a gate, whose two bytes of the number are one field
+pub digits-ruled : (x : ℕ) → gateRules (x / 1024 % 1024) (x / 128 % 8) (x / 8 % 8) (x % 4) ≡ gateRefusal (digits x)
+unfolding gateRefusal
+digits-ruled x =
+    let number : x / 1024 % 1024 ≡ x / 1024 % 1024 / 256 * 256 + x / 1024 % 1024 % 256 = omega arith in
+    ap (λ (n : ℕ). gateRules n (x / 128 % 8) (x / 8 % 8) (x % 4)) number
 
 -- the two bytes of a distance are its high and its low one
 module _ (distance : ℕ) (s : List ℕ) (p : ℕ) (h : 8 ≤ distance) where
@@ -51,41 +77,108 @@ module _ (distance : ℕ) (s : List ℕ) (p : ℕ) (h : 8 ≤ distance) where
   unfolding unpack gateWidths
   distance-low = omega (arith, distance-split, field-lt s (p + (distance - 8)) 8)
 
--- ---- the walk over the gates, a turn at a time
+-- stores one after the other, each at its distance j from k: a run of stores
+each : List ℕ → ℕ → ℕ → List ℕ → List ℕ
+each o k j [] = o
+each o k j (v ∷ vs) = each (set o (k + j) v) k (suc j) vs
 
--- the rules look at the first gate alone, whatever follows
-rules-first : (distance : ℕ) (s : List ℕ) (p : ℕ) (more : List ℕ)
-    → gateRefusal (unpack s p (gateWidths distance) ++ more) ≡ gateRefusal (unpack s p (gateWidths distance))
-unfolding gateRefusal unpack gateWidths
-rules-first distance s p more = refl
+each-run : (o : List ℕ) (k j : ℕ) (vs : List ℕ) → each o k j vs ≡ sets o (k + j) vs
+unfolding each
+each-run o k j [] = refl
+each-run o k j (v ∷ vs) = each-run (set o (k + j) v) k (suc j) vs ∙ ap (λ (n : ℕ). sets (set o (k + j) v) n vs) (add-suc k j)
 
-module _ (distance : ℕ) (s : List ℕ) (p m : ℕ) (wide : 8 ≤ distance) (h : 0 < m) where
-  abbrev ws : List ℕ
-  ws = gateWidths distance
+-- so the bytes of a gate are stored
+pub stored : (o : List ℕ) (k x : ℕ)
+    → set (set (set (set (set (set (set (set (set o k (x / 1048576 / 256 % 256)) (k + 1) (x / 1048576 % 256)) (k + 2) (x / 1024 % 1024 / 256)) (k + 3) (x / 1024 % 1024 % 256)) (k + 4) (x / 128 % 8)) (k + 5) (x / 64 % 2)) (k + 6) (x / 8 % 8)) (k + 7) (x / 4 % 2)) (k + 8) (x % 4)
+    ≡ sets o k (digits x)
+unfolding each
+stored o k x =
+    let first : ℕ = x / 1048576 / 256 % 256 in
+    let more : List ℕ = drop 1 (digits x) in
+    each-run (set o k first) k 1 more ∙ ap (λ (n : ℕ). sets (set o k first) n more) (add-one k)
+
+-- ---- the walks over the gates, a turn at a time
+
+-- a gate kept, and then those behind it
+pub load-more : (s : List ℕ) (p b m : ℕ) (kept : List ℕ) (k : ℕ) → 0 < m
+    → sets (set kept k (field s p b)) (k + 1) (unpack s (p + b) (times (m - 1) (b ∷ []))) ≡ sets kept k (unpack s p (times m (b ∷ [])))
+unfolding unpack times
+load-more s p b m kept k h =
+    let n : suc (m - 1) ≡ m = omega arith in
+    ap (λ (j : ℕ). sets (set kept k (field s p b)) j (unpack s (p + b) (times (m - 1) (b ∷ [])))) (add-one k)
+    ∙ ap (λ (t : ℕ). sets kept k (unpack s p (times t (b ∷ [])))) n
+
+-- the rules on a first gate, and on those behind it
+rules-suc : (x : ℕ) (more : List ℕ) (n : ℕ) → rulesRefusal (spread (x ∷ more)) (suc n) ≡ orElse (gateRefusal (digits x)) (rulesRefusal (spread more) n)
+unfolding rulesRefusal gateRefusal spread
+rules-suc x more n = refl
+
+module _ (kept : List ℕ) (i n : ℕ) (h : i < n) (long : n ≤ length kept) where
+  abbrev gate : ℕ
+  gate = getD kept i 0
 
   abbrev behind : List ℕ
-  behind = unpack s (p + gateBits distance) (times (m - 1) ws)
+  behind = slice (i + 1) n kept
 
-  rules-more : orElse (gateRefusal (unpack s p ws)) (rulesRefusal behind (m - 1)) ≡ rulesRefusal (unpack s p (times m ws)) m
-  unfolding rulesRefusal
+  -- the first gate, and those behind
+  first-gate : slice i n kept ≡ gate ∷ behind
+  first-gate = slice-cons i n kept 0 h long ∙ ap (λ (k : ℕ). gate ∷ slice k n kept) (sym (add-one i))
+
+  rules-more : orElse (gateRefusal (digits gate)) (rulesRefusal (spread behind) (n - i - 1)) ≡ rulesRefusal (spread (slice i n kept)) (n - i)
   rules-more =
-      let n : suc (m - 1) ≡ m = omega arith in
-      let parts : unpack s p (times (suc (m - 1)) ws) ≡ unpack s p ws ++ behind =
-      ap (unpack s p) (times-suc (m - 1) ws) ∙ unpack-append s p ws (times (m - 1) ws)
-      ∙ ap (λ (t : ℕ). unpack s p ws ++ unpack s (p + t) (times (m - 1) ws)) (total-gate distance wide) in
-      let gate : gateRefusal (unpack s p ws) ≡ gateRefusal (unpack s p ws ++ behind) = sym (rules-first distance s p behind) in
-      let rest : behind ≡ drop gateBytes (unpack s p ws ++ behind) =
-      sym (drop-at (unpack s p ws) behind gateBytes (length-unpack s p ws ∙ length-gate distance)) in
-      (λ i. orElse (gate i) (rulesRefusal (rest i) (m - 1)))
-      ∙ ap (λ (l : List ℕ). rulesRefusal l (suc (m - 1))) (sym parts)
-      ∙ ap (λ (k : ℕ). rulesRefusal (unpack s p (times k ws)) k) n
+      let e : suc (n - i - 1) ≡ n - i = omega arith in
+      sym (rules-suc gate behind (n - i - 1)) ∙ (λ j. rulesRefusal (spread (sym first-gate j)) (e j))
 
   -- it stops at a gate that is refused, and goes on past one that is not
-  pub rules-stop : (a : ℕ) → a ≡ gateRefusal (unpack s p ws) → (a ≡ 0 → ⊥) → a ≡ rulesRefusal (unpack s p (times m ws)) m
+  pub rules-stop : (a : ℕ) → a ≡ gateRefusal (digits gate) → (a ≡ 0 → ⊥) → a ≡ rulesRefusal (spread (slice i n kept)) (n - i)
   rules-stop a e ne = ends _ _ e ne ∙ rules-more
 
-  pub rules-go : (a : ℕ) → a ≡ gateRefusal (unpack s p ws) → a ≡ 0 → rulesRefusal behind (m - 1) ≡ rulesRefusal (unpack s p (times m ws)) m
+  pub rules-go : (a : ℕ) → a ≡ gateRefusal (digits gate) → a ≡ 0 → rulesRefusal (spread behind) (n - i - 1) ≡ rulesRefusal (spread (slice i n kept)) (n - i)
   rules-go a e z = sym (orElse-go _ _ (sym e ∙ z)) ∙ rules-more
+
+  -- a gate stored, and then those behind it
+  pub fill-more : (o : List ℕ) (k : ℕ) → sets (sets o k (digits gate)) (k + gateBytes) (spread behind) ≡ sets o k (spread (slice i n kept))
+  unfolding spread
+  fill-more o k = sym (ap (λ (l : List ℕ). sets o k (spread l)) first-gate ∙ sets-append o k (digits gate) (spread behind))
+
+-- ---- the gates taken
+
+module _ (distance : ℕ) (s : List ℕ) where
+  -- the bytes of the gates that were kept are those of the sub-packet
+  pub kept-gates : (n : ℕ) (blank : List ℕ) → 8 ≤ distance → distance ≤ 15 → n ≤ length blank
+      → spread (slice 0 n (sets blank 0 (unpack s 16 (times n (gateBits distance ∷ []))))) ≡ firstGates distance s n
+  kept-gates n blank wide narrow room =
+      let gates : List ℕ = unpack s 16 (times n (gateBits distance ∷ [])) in
+      let long : length gates ≡ n = length-unpack s 16 (times n (gateBits distance ∷ [])) ∙ length-times n (gateBits distance ∷ []) 1 refl ∙ one-mul n in
+      ap (λ (l : List ℕ). spread (slice 0 n l)) (sets-eq gates blank 0 (omega arith))
+      ∙ ap spread (take-at gates (drop (0 + length gates) blank) n long)
+      ∙ spread-unpack distance s wide narrow n 16
+
+  -- with no gates there is no padding, and no room is needed
+  none-refused : (room : ℕ) → 0 ≡ orElse (rulesRefusal (firstGates distance s 0) 0) (endRefusal distance s 0 room)
+  unfolding endRefusal
+  none-refused room =
+      let e : paddingBits distance 0 ≡ 0 = omega arith in
+      let l : field s (bitsOf distance 0) (paddingBits distance 0) < 1 = subst (λ (w : ℕ). field s (bitsOf distance 0) w < 1) (sym e) (field-lt s (bitsOf distance 0) 0) in
+      next _ _ (rules-none _)
+      (not-below 0 (field s (bitsOf distance 0) (paddingBits distance 0)) paddingSet _ (omega arith) (last-not-below room (gateBytes * 0) noRoom (omega arith)))
+
+  none-stored : (o : List ℕ) → o ≡ unlessRefused 0 (sets o 0 (firstGates distance s 0)) o
+  unfolding unlessRefused times unpack
+  none-stored o = refl
+
+  pub none-taken : (n : ℕ) (o : List ℕ) → n ≡ 0
+      → (0 ≡ orElse (rulesRefusal (firstGates distance s n) n) (endRefusal distance s n (length o)))
+      × (o ≡ unlessRefused 0 (sets o 0 (firstGates distance s n)) o)
+  none-taken n o e = (
+    none-refused (length o) ∙ (λ i. orElse (rulesRefusal (firstGates distance s (sym e i)) (sym e i)) (endRefusal distance s (sym e i) (length o))),
+    none-stored o ∙ (λ i. unlessRefused 0 (sets o 0 (firstGates distance s (sym e i))) o),
+  )
+
+  -- where nothing refuses behind the gates, there is room for them
+  pub end-room : (n room : ℕ) → endRefusal distance s n room ≡ 0 → gateBytes * n ≤ room
+  unfolding endRefusal
+  end-room n room e = ltb-false _ _ (refuse-none _ _ (orElse-then _ _ e))
 
 -- ---- the answer and the output
 
@@ -117,27 +210,54 @@ unfolding gatesOf
 length-gates distance s =
     length-unpack s 16 (times (countOf s) (gateWidths distance)) ∙ length-pieces distance (countOf s)
 
--- the two ways that a gate read ends
+-- the rules in the order of the steps
+read-steps : (distance : ℕ) (s : List ℕ) (room : ℕ)
+    → orElse (shapeRefusal distance s) (orElse (rulesRefusal (gatesOf distance s) (countOf s)) (endRefusal distance s (countOf s) room)) ≡ readRefusal distance s room
+unfolding shapeRefusal endRefusal readRefusal bodyRefusal
+read-steps distance s room =
+    let rules : ℕ = rulesRefusal (gatesOf distance s) (countOf s) in
+    orElse-assoc _ _ _ ∙ ap (orElse _) (ap (orElse _) (sym (orElse-assoc rules _ _)) ∙ sym (orElse-assoc _ _ _))
+
+-- the ways that a gate read ends
 module _ (s o : List ℕ) where
+  abbrev gates : ℕ → List ℕ
+  gates = firstGates distanceWidth s
+
   module _ (a : ℕ) (e : a ≡ readRefusal distanceWidth s (length o)) where
-    pub read-refused : (a ≡ 0 → ⊥) → (refusedWith a ≡ readAnswer s o) × (o ≡ readInto s o)
+    read-refused : (a ≡ 0 → ⊥) → (refusedWith a ≡ readAnswer s o) × (o ≡ readInto s o)
     unfolding readAnswer readInto
     read-refused ne =
         let h : readRefusal distanceWidth s (length o) ≡ 0 → ⊥ = λ z. ne (e ∙ z) in
         (ap refusedWith e ∙ sym (unless-some _ _ _ h), sym (unless-some _ _ _ h))
 
-    pub read-accepted : a ≡ 0 → (n bytes : ℕ) (after : List ℕ) → n ≡ countOf s → bytes ≡ lengthOf s
-        → after ≡ sets o 0 (unpack s 16 (times n (gateWidths distanceWidth)))
-        → (_≡_ {A = GatesAnswer} (record { answer = a; gates = n; bytes = bytes }) (readAnswer s o)) × (after ≡ readInto s o)
-    unfolding readAnswer readInto gatesOf
-    read-accepted z n bytes after en eb ea =
-        let h : readRefusal distanceWidth s (length o) ≡ 0 = sym e ∙ z in
-        let g = gated distanceWidth s (length o) h in
-        let gates : List ℕ = unpack s 16 (times (countOf s) (gateWidths distanceWidth)) in
-        let long : length gates ≡ gateBytes * countOf s = length-gates distanceWidth s in
-        let all : after ≡ gates ++ drop (gateBytes * countOf s) o =
-        ea ∙ ap (λ (m : ℕ). sets o 0 (unpack s 16 (times m (gateWidths distanceWidth)))) en ∙ sets-eq gates o 0 (omega arith)
-        ∙ ap (λ (m : ℕ). gates ++ drop m o) (zero-add (length gates) ∙ long) in
-        let answer : _≡_ {A = GatesAnswer} (record { answer = a; gates = n; bytes = bytes }) (acceptedWith (countOf s) (lengthOf s)) =
-        λ i. record { answer = z i; gates = en i; bytes = eb i } in
-        (answer ∙ sym (unless-none _ _ _ h), all ∙ sym (unless-none _ _ _ h))
+  module _ (shape : ℕ) (es : shape ≡ shapeRefusal distanceWidth s) where
+    pub shape-refused : (shape ≡ 0 → ⊥) → (refusedWith shape ≡ readAnswer s o) × (o ≡ readInto s o)
+    shape-refused ne = read-refused shape (ends _ _ es ne ∙ read-steps distanceWidth s (length o)) ne
+
+    module _ (zs : shape ≡ 0) (a n : ℕ) (after : List ℕ) (en : n ≡ countOf s) (ea : a ≡ orElse (rulesRefusal (gates n) n) (endRefusal distanceWidth s n (length o)))
+        (eo : after ≡ unlessRefused a (sets o 0 (gates n)) o) where
+      answer-eq : a ≡ readRefusal distanceWidth s (length o)
+      unfolding gatesOf
+      answer-eq =
+          next _ _ (sym es ∙ zs) (ea ∙ (λ i. orElse (rulesRefusal (gates (en i)) (en i)) (endRefusal distanceWidth s (en i) (length o))))
+          ∙ read-steps distanceWidth s (length o)
+
+      pub gates-refused : (a ≡ 0 → ⊥) → (refusedWith a ≡ readAnswer s o) × (after ≡ readInto s o)
+      gates-refused ne =
+          let r = read-refused a answer-eq ne in
+          (r .0, eo ∙ unless-some _ _ _ ne ∙ r .1)
+
+      pub read-accepted : a ≡ 0 → (bytes : ℕ) → bytes ≡ lengthOf s
+          → (_≡_ {A = GatesAnswer} (record { answer = a; gates = n; bytes = bytes }) (readAnswer s o)) × (after ≡ readInto s o)
+      unfolding readAnswer readInto gatesOf
+      read-accepted z bytes eb =
+          let h : readRefusal distanceWidth s (length o) ≡ 0 = sym answer-eq ∙ z in
+          let g = gated distanceWidth s (length o) h in
+          let all : List ℕ = gates (countOf s) in
+          let long : length all ≡ gateBytes * countOf s = length-gates distanceWidth s in
+          let out : after ≡ all ++ drop (gateBytes * countOf s) o =
+          eo ∙ unless-none _ _ _ z ∙ ap (λ (m : ℕ). sets o 0 (gates m)) en ∙ sets-eq all o 0 (omega arith)
+          ∙ ap (λ (m : ℕ). all ++ drop m o) (zero-add (length all) ∙ long) in
+          let answer : _≡_ {A = GatesAnswer} (record { answer = a; gates = n; bytes = bytes }) (acceptedWith (countOf s) (lengthOf s)) =
+          λ i. record { answer = z i; gates = en i; bytes = eb i } in
+          (answer ∙ sym (unless-none _ _ _ h), out ∙ sym (unless-none _ _ _ h))

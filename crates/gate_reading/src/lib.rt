@@ -1,98 +1,162 @@
-// Gate sub-packets read: everything is judged first, and stored afterwards, so that a refusal changes nothing. `distance` is the width of a
-// gate's distance.
+// Gate sub-packets read: everything is judged first, and stored afterwards, so that a refusal changes nothing. In between each gate is kept as the
+// one number that its bits are, so that it is loaded once. `distance` is the width of a gate's distance.
 use framing::refusals;
 use gates::GatesAnswer;
 ghost use mathlib.Core.Path.{_≡_};
-ghost use Prim.Native.Nat.{_*_, _≤_};
+ghost use mathlib.Core.List.{[], _∷_};
+ghost use Prim.Native.Nat.{_+_, _*_, _≤_};
 ghost use lib.ListN.{length};
-ghost use lib.Seq.{sets};
+ghost use lib.Seq.{sets, slice};
+ghost use Rattle.numbers.specs.Fields.{field};
 ghost use Rattle.numbers.specs.Pieces.{times, unpack};
-ghost use Rattle.gates.specs.Gates.{gateBytes, gateWidths, gateRefusal, rulesRefusal};
-ghost use Rattle.gate_reading.specs.Reading.{bodyRefusal, readRefusal, readAnswer, readInto};
+ghost use Rattle.framing.specs.Refusals.{orElse, unlessRefused};
+ghost use Rattle.gates.specs.Gates.{gateBytes, gateBits, gateRefusal, rulesRefusal, refusedWith};
+ghost use Rattle.gate_reading.specs.Reading.{readAnswer, readInto};
+ghost use Rattle.gate_reading.specs.Steps.{shapeRefusal, firstGates, endRefusal, digits, spread};
 
-// The refusal that the gate at bit p gets.
-fn gate_refusal(s: &[u8], p: usize, distance: u8) -> u32
-    requires { ⌜ (p ≤ 2000) × (8 ≤ distance) ⌝ }
-    ensures { λ r. ⌜ r ≡ gateRefusal (unpack (now (s .entry)) p (gateWidths distance)) ⌝ }
-{
-    let q = p + distance as usize;
-    let number = fields::read_field(s, q, 10);
-    let suffix = fields::read_field(s, q + 10, 3);
-    let class = fields::read_field(s, q + 14, 3);
-    let whistle = fields::read_field(s, q + 18, 2);
-    gates::gate_rules(number, suffix, class, whistle)
-}
+// The most gates that a count of 5 bits can say.
+const MOST_COUNTED: usize = 31;
 
-// The first refusal of n gates from bit 16 on.
-fn rules_refusal(s: &[u8], distance: u8, n: usize) -> u32
-    requires { ⌜ (8 ≤ distance) × (distance ≤ 15) × (n ≤ 31) ⌝ }
-    ensures { λ r. ⌜ r ≡ rulesRefusal (unpack (now (s .entry)) 16 (times n (gateWidths distance))) n ⌝ }
-{
-    let mut p = 16;
-    let mut i = 0;
-    while i < n {
-        let refusal = gate_refusal(s, p, distance);
-        if refusal != refusals::NONE {
-            return refusal;
-        }
-        p += gates::gate_bits(distance);
-        i += 1;
-    }
-    refusals::NONE
-}
-
-// The refusal that a gate sub-packet gets by the rules behind those of the header.
-fn body_refusal(s: &[u8], distance: u8) -> u32
-    requires { ⌜ (8 ≤ distance) × (distance ≤ 15) ⌝ }
-    ensures { λ r. ⌜ r ≡ bodyRefusal distance (now (s .entry)) ⌝ }
-{
-    let n = gates::count_of(s);
-    let bits = gates::bits_of(distance, n as u32);
-    let size = (bits + 7) / 8;
-    if framing::length_of(s) != size {
-        return refusals::LENGTH_NOT_FOR_COUNT;
-    }
-    let rules = rules_refusal(s, distance, n);
-    if rules != refusals::NONE {
-        return rules;
-    }
-    if 0 < fields::read_field(s, bits, 8 * size - bits) {
-        return refusals::PADDING_SET;
-    }
-    refusals::NONE
-}
-
-// The refusal that a gate read into `room` bytes gets.
-fn read_refusal(s: &[u8], room: usize, distance: u8) -> u32
-    requires { ⌜ (8 ≤ distance) × (distance ≤ 15) ⌝ }
-    ensures { λ r. ⌜ r ≡ readRefusal distance (now (s .entry)) room ⌝ }
+// The refusal that a gate sub-packet gets before its gates are looked at.
+fn shape_refusal(s: &[u8], distance: u8) -> u32
+    ensures { λ r. ⌜ r ≡ shapeRefusal distance (now (s .entry)) ⌝ }
 {
     let head = framing::head_refusal(s, gates::GATE_TYPE, gates::GATE_TYPE);
     if head != refusals::NONE {
         return head;
     }
-    let body = body_refusal(s, distance);
-    if body != refusals::NONE {
-        return body;
+    let bits = gates::bits_of(distance, gates::count_of(s) as u32);
+    if framing::length_of(s) != (bits + 7) / 8 {
+        return refusals::LENGTH_NOT_FOR_COUNT;
     }
-    if room < gates::GATE_BYTES * gates::count_of(s) {
+    refusals::NONE
+}
+
+// The bits of the gate at bit p as one number. Its fields are digits of it, counted from the lowest, so that the width of the distance moves none.
+fn gate_at(s: &[u8], p: usize, distance: u8) -> u64
+    requires { ⌜ distance ≤ 15 ⌝ }
+    ensures { λ r. ⌜ r ≡ field (now (s .entry)) p (gateBits distance) ⌝ }
+{
+    fields::read_wide(s, p, gates::gate_bits(distance))
+}
+
+// Keeps n gates from bit 16 on.
+fn load_gates(s: &[u8], distance: u8, n: usize, kept: &mut [u64])
+    requires { ⌜ (distance ≤ 15) × (n ≤ 31) × (n ≤ length (now kept)) ⌝ }
+    ensures { λ _. ⌜ now (kept .exit) ≡ sets (now (kept .entry)) 0 (unpack (now (s .entry)) 16 (times n (gateBits distance ∷ []))) ⌝ }
+{
+    let mut p = 16;
+    let mut i = 0;
+    while i < n {
+        kept[i] = gate_at(s, p, distance);
+        p += gates::gate_bits(distance);
+        i += 1;
+    }
+}
+
+// The refusal that a gate gets.
+fn gate_refusal(gate: u64) -> u32
+    ensures { λ r. ⌜ r ≡ gateRefusal (digits gate) ⌝ }
+{
+    let number = (gate / gates::NUMBER_WEIGHT % 1024) as u32;
+    let suffix = (gate / gates::SUFFIX_WEIGHT % 8) as u32;
+    let class = (gate / gates::CLASS_WEIGHT % 8) as u32;
+    let whistle = (gate % 4) as u32;
+    gates::gate_rules(number, suffix, class, whistle)
+}
+
+// The first refusal of n gates.
+fn rules_refusal(kept: &[u64], n: usize) -> u32
+    requires { ⌜ (n ≤ 31) × (n ≤ length (now kept)) ⌝ }
+    ensures { λ r. ⌜ r ≡ rulesRefusal (spread (slice 0 n (now (kept .entry)))) n ⌝ }
+{
+    let mut i = 0;
+    while i < n {
+        let refusal = gate_refusal(kept[i]);
+        if refusal != refusals::NONE {
+            return refusal;
+        }
+        i += 1;
+    }
+    refusals::NONE
+}
+
+// The refusal that a gate sub-packet of n gates, read into `room` bytes, gets behind the gates.
+fn end_refusal(s: &[u8], distance: u8, n: usize, room: usize) -> u32
+    requires { ⌜ n ≤ 31 ⌝ }
+    ensures { λ r. ⌜ r ≡ endRefusal distance (now (s .entry)) n room ⌝ }
+{
+    let bits = gates::bits_of(distance, n as u32);
+    let size = (bits + 7) / 8;
+    if 0 < fields::read_field(s, bits, 8 * size - bits) {
+        return refusals::PADDING_SET;
+    }
+    if room < gates::GATE_BYTES * n {
         return refusals::NO_ROOM;
     }
     refusals::NONE
 }
 
-// Stores the bytes of n gates from bit 16 on, a piece at a time.
-fn fill_gates(s: &[u8], distance: u8, n: usize, out: &mut [u8])
-    requires { ⌜ (distance ≤ 15) × (n ≤ 31) × (gateBytes * n ≤ length (now out)) ⌝ }
-    ensures { λ _. ⌜ now (out .exit) ≡ sets (now (out .entry)) 0 (unpack (now (s .entry)) 16 (times n (gateWidths distance))) ⌝ }
+// Stores the 9 bytes of a gate from byte `at` on.
+fn fill_gate(gate: u64, out: &mut [u8], at: usize)
+    requires { ⌜ at + gateBytes ≤ length (now out) ⌝ }
+    ensures { λ _. ⌜ now (out .exit) ≡ sets (now (out .entry)) at (digits gate) ⌝ }
 {
-    let mut p = 16;
-    let mut k = 0;
-    while k < gates::GATE_BYTES * n {
-        let w = gates::piece_width(distance, k);
-        out[k] = fields::read_field(s, p, w) as u8;
-        p += w;
-        k += 1;
+    let far = gate / gates::DISTANCE_WEIGHT;
+    let number = gate / gates::NUMBER_WEIGHT % 1024;
+    out[at] = (far / 256 % 256) as u8;
+    out[at + 1] = (far % 256) as u8;
+    out[at + 2] = (number / 256) as u8;
+    out[at + 3] = (number % 256) as u8;
+    out[at + 4] = (gate / gates::SUFFIX_WEIGHT % 8) as u8;
+    out[at + 5] = (gate / gates::MANNING_WEIGHT % 2) as u8;
+    out[at + 6] = (gate / gates::CLASS_WEIGHT % 8) as u8;
+    out[at + 7] = (gate / gates::WHISTLING_WEIGHT % 2) as u8;
+    out[at + 8] = (gate % 4) as u8;
+}
+
+// Stores the bytes of n gates.
+fn fill_gates(kept: &[u64], n: usize, out: &mut [u8])
+    requires { ⌜ (n ≤ 31) × (n ≤ length (now kept)) × (gateBytes * n ≤ length (now out)) ⌝ }
+    ensures { λ _. ⌜ now (out .exit) ≡ sets (now (out .entry)) 0 (spread (slice 0 n (now (kept .entry)))) ⌝ }
+{
+    let mut i = 0;
+    while i < n {
+        fill_gate(kept[i], out, gates::GATE_BYTES * i);
+        i += 1;
+    }
+}
+
+// Reads n gates from bit 16 on into `out`, or answers why not. Where there is none, nothing is left that could refuse.
+fn take_gates(s: &[u8], distance: u8, n: usize, out: &mut [u8]) -> u32
+    requires { ⌜ (8 ≤ distance) × (distance ≤ 15) × (n ≤ 31) ⌝ }
+    ensures { λ r. ⌜ r ≡ orElse (rulesRefusal (firstGates distance (now (s .entry)) n) n) (endRefusal distance (now (s .entry)) n (length (now (out .entry)))) ⌝ }
+    ensures { λ r. ⌜ now (out .exit) ≡ unlessRefused r (sets (now (out .entry)) 0 (firstGates distance (now (s .entry)) n)) (now (out .entry)) ⌝ }
+{
+    if n == 0 {
+        return refusals::NONE;
+    }
+    let mut kept = [0u64; MOST_COUNTED];
+    load_gates(s, distance, n, &mut kept);
+    let rules = rules_refusal(&kept, n);
+    if rules != refusals::NONE {
+        return rules;
+    }
+    let end = end_refusal(s, distance, n, out.len());
+    if end != refusals::NONE {
+        return end;
+    }
+    fill_gates(&kept, n, out);
+    refusals::NONE
+}
+
+fn refused(answer: u32) -> GatesAnswer
+    ensures { λ r. ⌜ r ≡ refusedWith answer ⌝ }
+{
+    GatesAnswer {
+        answer,
+        gates: 0,
+        bytes: 0,
     }
 }
 
@@ -102,20 +166,18 @@ pub fn read_gates(s: &[u8], out: &mut [u8]) -> GatesAnswer
     ensures { λ r. ⌜ r ≡ readAnswer (now (s .entry)) (now (out .entry)) ⌝ }
     ensures { λ _. ⌜ now (out .exit) ≡ readInto (now (s .entry)) (now (out .entry)) ⌝ }
 {
-    let answer = read_refusal(s, out.len(), gates::DISTANCE_WIDTH);
-    if answer != refusals::NONE {
-        return GatesAnswer {
-            answer,
-            gates: 0,
-            bytes: 0,
-        };
+    let shape = shape_refusal(s, gates::DISTANCE_WIDTH);
+    if shape != refusals::NONE {
+        return refused(shape);
     }
     let gates = gates::count_of(s);
-    let bytes = framing::length_of(s);
-    fill_gates(s, gates::DISTANCE_WIDTH, gates, out);
+    let answer = take_gates(s, gates::DISTANCE_WIDTH, gates, out);
+    if answer != refusals::NONE {
+        return refused(answer);
+    }
     GatesAnswer {
         answer,
         gates,
-        bytes,
+        bytes: framing::length_of(s),
     }
 }

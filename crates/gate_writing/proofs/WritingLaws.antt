@@ -1,25 +1,28 @@
 -- Laws of gate writing.
 use mathlib.Core.Path.{_≡_, refl, sym, ap, ap₂, _∙_}
 use mathlib.Core.List.{List, [], _∷_, _++_}
-use Prim.Native.Nat.{ℕ, suc, _+_, _-_, _*_, _%_, _^_, _≤_, _<_}
-use native.Mathlib.Nat.{add-zero, add-assoc}
+use mathlib.Core.Bool.{Bool, true, false}
+use mathlib.Core.Logic.{⊎-elim, _⊎_, inl, inr}
+use Prim.Native.Nat.{ℕ, zero, suc, _+_, _-_, _*_, _%_, _^_, _≤_, _<_}
+use native.Mathlib.Nat.{add-zero, add-assoc, mod-eq-of-lt}
 use native.Mathlib.Omega.{arith}
-use native.Mathlib.Numerals.{add-one}
+use native.Mathlib.Numerals.{add-one, one-add}
 use borrow.Author.Tests.{lt-leb, le-leb, ltb-false}
+use lib.Dec.{ltb, leb}
 use lib.ListN.{length, getD, drop}
-use lib.Seq.{drop-at, drop-cons, drop-drop, getD-drop}
+use lib.Seq.{drop-at, drop-drop, getD-drop}
 use Rattle.numbers.specs.Fields.{put}
 use Rattle.numbers.specs.Pieces.{total, times, pack}
-use Rattle.numbers.specs.Numbers.{numberAt}
-use Rattle.framing.specs.Refusals.{tooWide, refuse, orElse}
-use Rattle.gates.specs.Gates.{gateType, distanceWidth, gateBytes, gateWidths, bitsOf, sizeOf, paddingBits, gateRules, gateRefusal, rulesRefusal, refusedWith, acceptedWith}
+use Rattle.numbers.specs.Numbers.{putNumber}
+use Rattle.framing.specs.Refusals.{notAllowed, tooWide, refuse, orElse}
+use Rattle.gates.specs.Gates.{gateType, distanceWidth, gateBytes, gateWidths, gateBits, bitsOf, sizeOf, paddingBits, lastNumber, lastSuffix, lastClass, lastWhistle, gateRules, gateRefusal, rulesRefusal, refusedWith, acceptedWith}
 use Rattle.gate_writing.specs.Writing.{mostGates, gatesIn, packetWidths, packetValues, written, widthsRefusal, listRefusal, writeRefusal, writeAnswer, writeInto}
 use Rattle.gates.specs.declared.GatesAnswer.{GatesAnswer}
-use Rattle.numbers.proofs.FieldLaws.{Bytes}
-use Rattle.numbers.proofs.NumberLaws.{number-byte, number-pair}
-use Rattle.numbers.proofs.PieceLaws.{total-append, pack-append, pack-extra}
-use Rattle.framing.proofs.RefusalLaws.{orElse-first, orElse-then, orElse-go, ends, refuse-none, unless-none, unless-some}
-use Rattle.gates.proofs.GateLaws.{length-pieces, bits-gates}
+use Rattle.numbers.proofs.FieldLaws.{Bytes, bytes-put}
+use Rattle.numbers.proofs.PieceLaws.{total-append, pack-append, pack-extra, times-suc}
+use Rattle.numbers.proofs.JoinedLaws.{put-cleared, joined, joined-step, pack-joined, pack-first}
+use Rattle.framing.proofs.RefusalLaws.{orElse-first, orElse-then, orElse-go, orElse-stop, orElse-assoc, ends, refuse-none, unless-none, unless-some}
+use Rattle.gates.proofs.GateLaws.{total-gate, length-gate, length-pieces, bits-gates}
 
 -- a whole sub-packet takes whole bytes
 pub total-packet : (distance n : ℕ) → 8 ≤ distance → total (packetWidths distance n) ≡ 8 * sizeOf distance n
@@ -29,47 +32,188 @@ total-packet distance n h =
     let e : 16 + t ≡ bitsOf distance n = bits-gates distance n h in
     rw total-append (omega arith)
 
--- ---- the walks over a gate's bytes and over the gates, a turn at a time
+-- ---- bytes of what is left of a list
 
-pub widths-none : (list : List ℕ) → widthsRefusal [] list ≡ 0
+pub first-byte : (list : List ℕ) (k : ℕ) → getD (drop k list) 0 0 ≡ getD list k 0
+first-byte list k = getD-drop k list 0 0 ∙ ap (λ (i : ℕ). getD list i 0) (add-zero k)
+
+-- the number that two bytes of a list are
+abbrev pub pairOf : List ℕ → ℕ → ℕ → ℕ
+pairOf list i j = getD list i 0 * 256 + getD list j 0
+
+pub pair-drop : (list : List ℕ) (i k : ℕ) → pairOf list (i + k) (i + k + 1) ≡ pairOf (drop i list) k (k + 1)
+pair-drop list i k =
+    ap₂ (λ (a b : ℕ). a * 256 + b) (sym (getD-drop i list k 0)) (ap (λ (n : ℕ). getD list n 0) (add-assoc i k 1) ∙ sym (getD-drop i list (k + 1) 0))
+
+-- ---- a refusal on one ground
+
+-- too wide and not allowed have one number: a refusal that can only be one of the two is 0 or that number
+abbrev Only : ℕ → Type 0
+Only a = (a ≡ 0) ⊎ (a ≡ notAllowed)
+
+only-refuse : (t : Bool) → Only (refuse t notAllowed)
+unfolding refuse
+only-refuse true = inr refl
+only-refuse false = inl refl
+
+only-orElse : (a b : ℕ) → Only a → Only b → Only (orElse a b)
+unfolding orElse
+only-orElse zero b ha hb = hb
+only-orElse (suc a) b ha hb = ha
+
+-- such refusals may be asked in any order
+only-same : {a b : ℕ} → Only (suc a) → Only (suc b) → suc a ≡ suc b
+only-same (inl z) hb = absurd (omega arith)
+only-same (inr e) (inl z) = absurd (omega arith)
+only-same (inr e) (inr f) = e ∙ sym f
+
+only-swap : (a b c : ℕ) → Only a → Only b → orElse a (orElse b c) ≡ orElse b (orElse a c)
+unfolding orElse
+only-swap zero b c ha hb = refl
+only-swap (suc a) zero c ha hb = refl
+only-swap (suc a) (suc b) c ha hb = only-same ha hb
+
+-- and the last of them is the answer wherever it stands
+only-last : (a b : ℕ) → Only a → b ≡ notAllowed → orElse a b ≡ notAllowed
+only-last a b (inl z) e = orElse-go a b z ∙ e
+only-last a b (inr h) e = sym (orElse-stop a b (λ z. omega arith)) ∙ h
+
+only-widths : (ws list : List ℕ) → Only (widthsRefusal ws list)
+unfolding widthsRefusal
+only-widths [] list = inl refl
+only-widths (w ∷ ws) list = only-orElse _ _ (only-refuse (leb (2 ^ w) (getD list 0 0))) (only-widths ws (drop 1 list))
+
+only-rules : (number suffix class whistle : ℕ) → Only (gateRules number suffix class whistle)
+unfolding gateRules
+only-rules number suffix class whistle =
+    only-orElse _ _ (only-refuse (ltb number 1))
+    (only-orElse _ _ (only-refuse (ltb lastNumber number))
+    (only-orElse _ _ (only-refuse (ltb lastSuffix suffix)) (only-orElse _ _ (only-refuse (ltb lastClass class)) (only-refuse (ltb lastWhistle whistle)))))
+
+only-gate : (list : List ℕ) → Only (gateRefusal list)
+unfolding gateRefusal
+only-gate list = only-rules _ _ _ _
+
+-- ---- the widths
+
+widths-none : (list : List ℕ) → widthsRefusal [] list ≡ 0
 unfolding widthsRefusal
 widths-none list = refl
 
-module _ (ws list : List ℕ) (k w : ℕ) (h : k < length ws) (e : w ≡ getD ws k 0) where
-  first-byte : getD (drop k list) 0 0 ≡ getD list k 0
-  first-byte = getD-drop k list 0 0 ∙ ap (λ (i : ℕ). getD list i 0) (add-zero k)
+widths-append : (ws bs list : List ℕ) → widthsRefusal (ws ++ bs) list ≡ orElse (widthsRefusal ws list) (widthsRefusal bs (drop (length ws) list))
+unfolding widthsRefusal orElse
+widths-append [] bs list = refl
+widths-append (w ∷ ws) bs list =
+    let a : ℕ = refuse (leb (2 ^ w) (getD list 0 0)) tooWide in
+    ap (orElse a)
+    (widths-append ws bs (drop 1 list)
+    ∙ ap (λ (l : List ℕ). orElse (widthsRefusal ws (drop 1 list)) (widthsRefusal bs l)) (drop-drop (length ws) 1 list ∙ ap (λ (k : ℕ). drop k list) (one-add (length ws))))
+    ∙ sym (orElse-assoc a (widthsRefusal ws (drop 1 list)) (widthsRefusal bs (drop (suc (length ws)) list)))
 
-  pub widths-stop : 2 ^ w ≤ getD list k 0 → tooWide ≡ widthsRefusal (drop k ws) (drop k list)
-  unfolding widthsRefusal orElse refuse
-  widths-stop l = rw (drop-cons ws k 0 h, first-byte, ← e) (simp (le-leb (2 ^ w) (getD list k 0) l))
+-- one byte that is too wide is enough
+widths-wide : (ws list : List ℕ) (k : ℕ) → k < length ws → 2 ^ getD ws k 0 ≤ getD list k 0 → widthsRefusal ws list ≡ tooWide
+unfolding widthsRefusal orElse refuse
+widths-wide [] list k h l = absurd (omega arith)
+widths-wide (w ∷ ws) list zero h l = rw (le-leb (2 ^ w) (getD list 0 0) l)
+widths-wide (w ∷ ws) list (suc k) h l =
+    only-last _ _ (only-refuse (leb (2 ^ w) (getD list 0 0)))
+    (widths-wide ws (drop 1 list) k (omega arith) (rw (getD-drop 1 list k 0, one-add k) l))
 
-  pub widths-go : getD list k 0 < 2 ^ w → widthsRefusal (drop (k + 1) ws) (drop (k + 1) list) ≡ widthsRefusal (drop k ws) (drop k list)
-  unfolding widthsRefusal orElse refuse
-  widths-go l =
-      let d : drop 1 (drop k list) ≡ drop (k + 1) list = drop-drop 1 k list in
-      rw (drop-cons ws k 0 h, first-byte, d, add-one k, ← e) (simp (lt-leb (2 ^ w) (getD list k 0) l))
+-- none is, where each has room
+widths-fit : (w : ℕ) (ws list : List ℕ) (k : ℕ) → getD list k 0 < 2 ^ w → widthsRefusal ws (drop (suc k) list) ≡ 0
+    → widthsRefusal (w ∷ ws) (drop k list) ≡ 0
+unfolding widthsRefusal orElse refuse
+widths-fit w ws list k l e =
+    let d : drop 1 (drop k list) ≡ drop (suc k) list = drop-drop 1 k list ∙ ap (λ (n : ℕ). drop n list) (add-one k) in
+    rw (first-byte list k, d) (simp (lt-leb (2 ^ w) (getD list k 0) l) e)
 
--- the rules on the gate at index i, by its numbers
-pub rules-at : (list : List ℕ) (i : ℕ) → Bytes list
-    → gateRefusal (drop i list) ≡ gateRules (numberAt 2 list (i + 2)) (numberAt 1 list (i + 4)) (numberAt 1 list (i + 6)) (numberAt 1 list (i + 8))
-unfolding gateRefusal
-rules-at list i h =
-    rw (number-pair list (i + 2) h, number-byte list (i + 4) (h (i + 4)), number-byte list (i + 6) (h (i + 6)), number-byte list (i + 8) (h (i + 8)))
-    (rw (add-assoc i 2 1) (simp getD-drop))
+-- ---- one gate
 
-module _ (list : List ℕ) (i m a : ℕ) (h : 0 < m) (e : a ≡ gateRefusal (drop i list)) where
-  rules-more : orElse (gateRefusal (drop i list)) (rulesRefusal (drop (i + gateBytes) list) (m - 1)) ≡ rulesRefusal (drop i list) m
-  unfolding rulesRefusal
-  rules-more =
+-- what the rules allow
+record Allowed (number suffix class whistle : ℕ) : Type 0 where
+  number-most : number ≤ lastNumber
+  suffix-most : suffix ≤ lastSuffix
+  class-most : class ≤ lastClass
+  whistle-most : whistle ≤ lastWhistle
+
+allowed : (number suffix class whistle : ℕ) → gateRules number suffix class whistle ≡ 0 → Allowed number suffix class whistle
+unfolding gateRules
+allowed number suffix class whistle e =
+    let e₁ = orElse-then _ _ e in
+    let e₂ = orElse-then _ _ e₁ in
+    let e₃ = orElse-then _ _ e₂ in
+    record {
+      number-most = ltb-false _ _ (refuse-none _ _ (orElse-first _ _ e₁));
+      suffix-most = ltb-false _ _ (refuse-none _ _ (orElse-first _ _ e₂));
+      class-most = ltb-false _ _ (refuse-none _ _ (orElse-first _ _ e₃));
+      whistle-most = ltb-false _ _ (refuse-none _ _ (orElse-then _ _ e₃));
+    }
+
+-- the refusal of the gate at the start of a list
+abbrev refusal : ℕ → List ℕ → ℕ
+refusal distance list = orElse (widthsRefusal (gateWidths distance) list) (gateRefusal list)
+
+module _ (distance : ℕ) (list : List ℕ) where
+  -- one byte that is too wide refuses the gate
+  pub gate-wide : (k : ℕ) → k < gateBytes → 2 ^ getD (gateWidths distance) k 0 ≤ getD list k 0 → tooWide ≡ refusal distance list
+  unfolding orElse
+  gate-wide k h l = rw (widths-wide (gateWidths distance) list k (rw length-gate h) l)
+
+  -- the rules' limits lie below the widths: past the pieces that have no limit the rules decide
+  module _ (hs : Bytes list) (high : getD list 0 0 < 2 ^ (distance - 8)) (manning : getD list 5 0 < 2) (whistling : getD list 7 0 < 2) where
+    widths-ruled : gateRefusal list ≡ 0 → widthsRefusal (gateWidths distance) list ≡ 0
+    unfolding gateRefusal gateWidths
+    widths-ruled e =
+        let a = allowed _ _ _ _ e in
+        widths-fit _ _ list 0 high
+        (widths-fit _ _ list 1 (hs 1)
+        (widths-fit _ _ list 2 (omega arith)
+        (widths-fit _ _ list 3 (hs 3)
+        (widths-fit _ _ list 4 (omega arith)
+        (widths-fit _ _ list 5 manning
+        (widths-fit _ _ list 6 (omega arith) (widths-fit _ _ list 7 whistling (widths-fit _ _ list 8 (omega arith) (widths-none (drop 9 list))))))))))
+
+    pub gate-ruled : gateRefusal list ≡ refusal distance list
+    gate-ruled =
+        ⊎-elim
+        (λ e. sym (orElse-go _ _ (widths-ruled e)))
+        (λ e. e ∙ sym (only-last _ _ (only-widths (gateWidths distance) list) e))
+        (only-gate list)
+
+-- ---- gate by gate
+
+module _ (distance : ℕ) (list : List ℕ) where
+  pub list-none : listRefusal distance list 0 ≡ 0
+  unfolding listRefusal times widthsRefusal rulesRefusal orElse
+  list-none = refl
+
+  list-suc : (n : ℕ) → listRefusal distance list (suc n) ≡ orElse (refusal distance list) (listRefusal distance (drop gateBytes list) n)
+  unfolding listRefusal times rulesRefusal
+  list-suc n =
+      let ws : List ℕ = gateWidths distance in
+      let a : ℕ = widthsRefusal ws list in
+      let b : ℕ = widthsRefusal (times n ws) (drop gateBytes list) in
+      let c : ℕ = gateRefusal list in
+      let d : ℕ = rulesRefusal (drop gateBytes list) n in
+      ap (λ (x : ℕ). orElse x (orElse c d)) (widths-append ws (times n ws) list ∙ ap (λ (k : ℕ). orElse a (widthsRefusal (times n ws) (drop k list))) (length-gate distance))
+      ∙ orElse-assoc a b (orElse c d)
+      ∙ ap (orElse a) (only-swap b c d (only-widths (times n ws) (drop gateBytes list)) (only-gate list))
+      ∙ sym (orElse-assoc a c (orElse b d))
+
+-- a turn of the loop: a gate that is refused ends it, and one that is not hands on
+module _ (distance : ℕ) (list : List ℕ) (i m a : ℕ) (h : 0 < m) (e : a ≡ refusal distance (drop i list)) where
+  list-more : orElse (refusal distance (drop i list)) (listRefusal distance (drop (i + gateBytes) list) (m - 1)) ≡ listRefusal distance (drop i list) m
+  list-more =
       let n : suc (m - 1) ≡ m = omega arith in
-      ap (λ (l : List ℕ). orElse (gateRefusal (drop i list)) (rulesRefusal l (m - 1))) (sym (drop-drop gateBytes i list))
-      ∙ ap (rulesRefusal (drop i list)) n
+      ap (λ (l : List ℕ). orElse (refusal distance (drop i list)) (listRefusal distance l (m - 1))) (sym (drop-drop gateBytes i list))
+      ∙ sym (list-suc distance (drop i list) (m - 1))
+      ∙ ap (listRefusal distance (drop i list)) n
 
-  pub rules-stop : (a ≡ 0 → ⊥) → a ≡ rulesRefusal (drop i list) m
-  rules-stop ne = ends _ _ e ne ∙ rules-more
+  pub list-stop : (a ≡ 0 → ⊥) → a ≡ listRefusal distance (drop i list) m
+  list-stop ne = ends _ _ e ne ∙ list-more
 
-  pub rules-go : a ≡ 0 → rulesRefusal (drop (i + gateBytes) list) (m - 1) ≡ rulesRefusal (drop i list) m
-  rules-go z = sym (orElse-go _ _ (sym e ∙ z)) ∙ rules-more
+  pub list-go : a ≡ 0 → listRefusal distance (drop (i + gateBytes) list) (m - 1) ≡ listRefusal distance (drop i list) m
+  list-go z = sym (orElse-go _ _ (sym e ∙ z)) ∙ list-more
 
 -- a gate write that is not refused
 pub record Listed (distance most : ℕ) (list : List ℕ) (room : ℕ) : Type 0 where
@@ -90,27 +234,88 @@ listed distance most list room e =
       fits = ltb-false _ _ (refuse-none _ _ (orElse-then _ _ e₂));
     }
 
+-- ---- a gate and a header, put as one number
+
+-- a gate's pieces behind the first
+abbrev low-widths : List ℕ
+low-widths = 8 ∷ 2 ∷ 8 ∷ 3 ∷ 1 ∷ 3 ∷ 1 ∷ 2 ∷ []
+
+-- the number of a gate with this distance, number, suffix, manning, class, whistling and whistling type
+abbrev pub gateDigits : ℕ → ℕ → ℕ → ℕ → ℕ → ℕ → ℕ → ℕ
+gateDigits far number a b c d e = far * 1048576 + number % 1024 * 1024 + (a % 8 * 128 + b % 2 * 64) + (c % 8 * 8 + d % 2 * 4 + e % 4)
+
+module _ (distance : ℕ) (o : List ℕ) (p : ℕ) (list : List ℕ) (h : 8 ≤ distance) (ho : Bytes o) (hs : Bytes list) (l : gateBytes ≤ length list) where
+  joined-gate : getD list 0 0 * 268435456 + joined low-widths (drop 1 list)
+      ≡ gateDigits (pairOf list 0 1) (pairOf list 2 3) (getD list 4 0) (getD list 5 0) (getD list 6 0) (getD list 7 0) (getD list 8 0)
+  unfolding joined total
+  joined-gate =
+      let w₈ : List ℕ = 2 ∷ [] in
+      let w₇ : List ℕ = 1 ∷ w₈ in
+      let w₆ : List ℕ = 3 ∷ w₇ in
+      let w₅ : List ℕ = 1 ∷ w₆ in
+      let w₄ : List ℕ = 3 ∷ w₅ in
+      let w₃ : List ℕ = 8 ∷ w₄ in
+      let w₂ : List ℕ = 2 ∷ w₃ in
+      let number : pairOf list 2 3 % 1024 ≡ getD list 2 0 % 4 * 256 + getD list 3 0 = omega (arith, hs 3) in
+      omega (arith, number, mod-eq-of-lt (hs 1), mod-eq-of-lt (hs 3), joined-step 8 w₂ list 1 (omega arith), joined-step 2 w₃ list 2 (omega arith), joined-step 8 w₄ list 3 (omega arith), joined-step 3 w₅ list 4 (omega arith), joined-step 1 w₆ list 5 (omega arith), joined-step 3 w₇ list 6 (omega arith), joined-step 1 w₈ list 7 (omega arith), joined-step 2 [] list 8 (omega arith))
+
+  pub gate-put : put o p (gateBits distance) (gateDigits (pairOf list 0 1) (pairOf list 2 3) (getD list 4 0) (getD list 5 0) (getD list 6 0) (getD list 7 0) (getD list 8 0))
+      ≡ pack o p (gateWidths distance) list
+  unfolding gateWidths total
+  gate-put =
+      let e : gateBits distance ≡ distance - 8 + 28 = omega arith in
+      ap₂ (put o p) e (sym joined-gate) ∙ sym (pack-first o p (distance - 8) low-widths list ho (omega arith))
+
+-- type, length and count
+pub header-put : (o : List ℕ) (size n : ℕ) → Bytes o → n ≤ 31
+    → putNumber 2 o 0 (gateType * 4096 + size % 128 * 32 + n) ≡ pack o 0 (4 ∷ 7 ∷ 5 ∷ []) (gateType ∷ size ∷ n ∷ [])
+unfolding joined total
+header-put o size n ho h =
+    let e : gateType * 4096 + size % 128 * 32 + n ≡ joined (4 ∷ 7 ∷ 5 ∷ []) (gateType ∷ size ∷ n ∷ []) = omega arith in
+    ap (put o 0 16) e ∙ sym (pack-joined o 0 (4 ∷ 7 ∷ 5 ∷ []) (gateType ∷ size ∷ n ∷ []) ho (omega arith))
+
+-- a turn of the loop that puts the gates: what is left to put, put, stays the same
+pub gates-step : (distance : ℕ) (o : List ℕ) (p : ℕ) (list : List ℕ) (i m : ℕ) → 8 ≤ distance → 0 < m
+    → pack (pack o p (gateWidths distance) (drop i list)) (p + gateBits distance) (times (m - 1) (gateWidths distance)) (drop (i + gateBytes) list)
+    ≡ pack o p (times m (gateWidths distance)) (drop i list)
+gates-step distance o p list i m h l =
+    let ws : List ℕ = gateWidths distance in
+    let v : List ℕ = drop i list in
+    let n : suc (m - 1) ≡ m = omega arith in
+    ap₂ (λ (t : ℕ) (u : List ℕ). pack (pack o p ws v) (p + t) (times (m - 1) ws) u) (sym (total-gate distance h))
+    (sym (drop-drop gateBytes i list) ∙ ap (λ (k : ℕ). drop k v) (sym (length-gate distance)))
+    ∙ sym (pack-append o p ws (times (m - 1) ws) v)
+    ∙ ap (λ (bs : List ℕ). pack o p bs v) (sym (times-suc (m - 1) ws) ∙ ap (λ (k : ℕ). times k ws) n)
+
 -- ---- the whole sub-packet, one write after the other
 
-pub written-steps : (distance : ℕ) (list o a b c d : List ℕ) → 8 ≤ distance → length list ≡ gateBytes * gatesIn list
-    → a ≡ put o 0 4 gateType
-    → b ≡ put a 4 7 (sizeOf distance (gatesIn list))
-    → c ≡ put b 11 5 (gatesIn list)
+-- the last byte is cleared, and then the header and the gates are put, so that what they leave of it is the padding
+pub written-steps : (distance : ℕ) (list o b c d : List ℕ) → 8 ≤ distance → Bytes o → length list ≡ gateBytes * gatesIn list
+    → b ≡ putNumber 1 o (sizeOf distance (gatesIn list) - 1) 0
+    → c ≡ pack b 0 (4 ∷ 7 ∷ 5 ∷ []) (gateType ∷ sizeOf distance (gatesIn list) ∷ gatesIn list ∷ [])
     → d ≡ pack c 16 (times (gatesIn list) (gateWidths distance)) list
-    → put d (bitsOf distance (gatesIn list)) (paddingBits distance (gatesIn list)) 0 ≡ written distance list o
-unfolding written packetWidths packetValues pack
-written-steps distance list o a b c d hd whole ea eb ec ed =
+    → d ≡ written distance list o
+unfolding written packetWidths packetValues pack total
+written-steps distance list o b c d hd ho whole eb ec ed =
     let n : ℕ = gatesIn list in
-    let ws : List ℕ = times n (gateWidths distance) in
+    let size : ℕ = sizeOf distance n in
     let w : ℕ = paddingBits distance n in
-    let el : length ws ≡ length list = length-pieces distance n ∙ sym whole in
-    let tail : pack c 16 (ws ++ (w ∷ [])) (list ++ (0 ∷ [])) ≡ put (pack c 16 ws list) (bitsOf distance n) w 0 =
-    pack-append c 16 ws (w ∷ []) (list ++ (0 ∷ []))
-    ∙ ap₂ (λ (x y : List ℕ). pack x (16 + total ws) (w ∷ []) y) (pack-extra c 16 ws list (0 ∷ []) el) (drop-at list (0 ∷ []) (length ws) (sym el))
-    ∙ ap (λ (q : ℕ). put (pack c 16 ws list) q w 0) (bits-gates distance n hd) in
-    let e : c ≡ put (put (put o 0 4 gateType) 4 7 (sizeOf distance n)) 11 5 n =
-    ec ∙ ap (λ (x : List ℕ). put x 11 5 n) (eb ∙ ap (λ (x : List ℕ). put x 4 7 (sizeOf distance n)) ea) in
-    ap (λ (x : List ℕ). put x (bitsOf distance n) w 0) ed ∙ sym tail ∙ ap (λ (x : List ℕ). pack x 16 (ws ++ (w ∷ [])) (list ++ (0 ∷ []))) e
+    let ws : List ℕ = 4 ∷ 7 ∷ 5 ∷ times n (gateWidths distance) in
+    let vs : List ℕ = gateType ∷ size ∷ n ∷ list in
+    let same : length ws ≡ length vs = omega (arith, length-pieces distance n) in
+    let bits : total ws ≡ bitsOf distance n = omega (arith, bits-gates distance n hd) in
+    let cleared : pack (putNumber 1 o (size - 1) 0) 0 ws vs ≡ put (pack o 0 ws vs) (0 + total ws) w 0 =
+    pack-joined (putNumber 1 o (size - 1) 0) 0 ws vs (bytes-put o (8 * (size - 1)) 8 0 ho) (omega arith)
+    ∙ put-cleared o 0 (total ws) (8 * (size - 1)) 8 w (joined ws vs) ho (omega arith) (omega arith) (omega arith)
+    ∙ ap (λ (l : List ℕ). put l (0 + total ws) w 0) (sym (pack-joined o 0 ws vs ho (omega arith))) in
+    let tail : pack o 0 (ws ++ (w ∷ [])) (vs ++ (0 ∷ [])) ≡ put (pack o 0 ws vs) (0 + total ws) w 0 =
+    pack-append o 0 ws (w ∷ []) (vs ++ (0 ∷ []))
+    ∙ ap₂ (λ (x y : List ℕ). pack x (0 + total ws) (w ∷ []) y) (pack-extra o 0 ws vs (0 ∷ []) same) (drop-at vs (0 ∷ []) (length ws) (sym same)) in
+    ed
+    ∙ ap (λ (x : List ℕ). pack x 16 (times n (gateWidths distance)) list) ec
+    ∙ ap (λ (x : List ℕ). pack x 0 ws vs) eb
+    ∙ cleared
+    ∙ sym tail
 
 -- the two ways that a gate write ends
 module _ (list o : List ℕ) (a : ℕ) (e : a ≡ writeRefusal distanceWidth mostGates list (length o)) where

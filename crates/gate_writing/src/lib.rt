@@ -3,42 +3,63 @@
 use framing::refusals;
 use gates::GatesAnswer;
 ghost use mathlib.Core.Path.{_≡_};
-ghost use Prim.Native.Nat.{_*_, _≤_};
-ghost use lib.ListN.{length};
+ghost use Prim.Native.Nat.{_+_, _*_, _≤_};
+ghost use lib.ListN.{length, getD, drop};
 ghost use Rattle.numbers.specs.Pieces.{times, pack};
-ghost use Rattle.gates.specs.Gates.{gateBytes, gateWidths, sizeOf, rulesRefusal};
+ghost use Rattle.framing.specs.Refusals.{orElse};
+ghost use Rattle.gates.specs.Gates.{gateBytes, gateWidths, sizeOf, gateRefusal};
 ghost use Rattle.gate_writing.specs.Writing.{written, widthsRefusal, listRefusal, writeRefusal, writeAnswer, writeInto};
 
 const MOST_GATES: usize = 28;
 
-// The refusal of a byte of the n gates of a list that has more digits than its piece is wide.
-fn widths_refusal(list: &[u8], distance: u8, n: usize) -> u32
-    requires { ⌜ (distance ≤ 15) × (gateBytes * n ≤ length (now list)) ⌝ }
-    ensures { λ r. ⌜ r ≡ widthsRefusal (times n (gateWidths distance)) (now (list .entry)) ⌝ }
+fn wide(x: u8) -> u32
+    ensures { λ r. ⌜ (r ≡ x) × (r ≤ 255) ⌝ }
 {
-    let mut k = 0;
-    while k < gates::GATE_BYTES * n {
-        if 1u32 << gates::piece_width(distance, k) <= numbers::byte_at(list, k) {
-            return refusals::TOO_WIDE;
-        }
-        k += 1;
-    }
-    refusals::NONE
+    x as u32
 }
 
-// The first refusal of the n gates of a list by what is allowed in a gate.
-fn rules_refusal(list: &[u8], n: usize) -> u32
-    requires { ⌜ gateBytes * n ≤ length (now list) ⌝ }
-    ensures { λ r. ⌜ r ≡ rulesRefusal (now (list .entry)) n ⌝ }
+// The number that two bytes of a list are, the high one first.
+fn pair_at(list: &[u8], i: usize) -> u32
+    requires { ⌜ i + 2 ≤ length (now list) ⌝ }
+    ensures { λ r. ⌜ (r ≡ getD (now (list .entry)) i 0 * 256 + getD (now (list .entry)) (i + 1) 0) × (r ≤ 65535) ⌝ }
+{
+    wide(list[i]) * 256 + wide(list[i + 1])
+}
+
+// The refusal that the gate at `at` of a list gets. Only the distance's high piece, manning and whistling are judged by their widths: a whole byte
+// is as wide as its piece, and the rules allow no number, suffix, class or whistling type as high as a value that is too wide.
+fn gate_refusal(list: &[u8], distance: u8, at: usize) -> u32
+    requires { ⌜ (distance ≤ 15) × (at + gateBytes ≤ length (now list)) ⌝ }
+    ensures { λ r. ⌜ r ≡ orElse (widthsRefusal (gateWidths distance) (drop at (now (list .entry)))) (gateRefusal (drop at (now (list .entry)))) ⌝ }
+{
+    let high = distance as usize - numbers::at_most(distance as usize, 8);
+    if 1u32 << high <= wide(list[at]) {
+        return refusals::TOO_WIDE;
+    }
+    if 1 < wide(list[at + 5]) {
+        return refusals::TOO_WIDE;
+    }
+    if 1 < wide(list[at + 7]) {
+        return refusals::TOO_WIDE;
+    }
+    gates::gate_rules(
+        pair_at(list, at + 2),
+        wide(list[at + 4]),
+        wide(list[at + 6]),
+        wide(list[at + 8]),
+    )
+}
+
+// The refusal that the n gates of a list get, a gate at a time: a width and a rule refuse by the same number, so that of two gates it does not
+// matter which refuses.
+fn list_refusal(list: &[u8], distance: u8, n: usize) -> u32
+    requires { ⌜ (distance ≤ 15) × (gateBytes * n ≤ length (now list)) ⌝ }
+    ensures { λ r. ⌜ r ≡ listRefusal distance (now (list .entry)) n ⌝ }
 {
     let mut at = 0;
     let mut i = 0;
     while i < n {
-        let number = numbers::half_at(list, at + 2);
-        let suffix = numbers::byte_at(list, at + 4);
-        let class = numbers::byte_at(list, at + 6);
-        let whistle = numbers::byte_at(list, at + 8);
-        let refusal = gates::gate_rules(number, suffix, class, whistle);
+        let refusal = gate_refusal(list, distance, at);
         if refusal != refusals::NONE {
             return refusal;
         }
@@ -46,18 +67,6 @@ fn rules_refusal(list: &[u8], n: usize) -> u32
         i += 1;
     }
     refusals::NONE
-}
-
-// The refusal that the n gates of a list get.
-fn list_refusal(list: &[u8], distance: u8, n: usize) -> u32
-    requires { ⌜ (distance ≤ 15) × (gateBytes * n ≤ length (now list)) ⌝ }
-    ensures { λ r. ⌜ r ≡ listRefusal distance (now (list .entry)) n ⌝ }
-{
-    let widths = widths_refusal(list, distance, n);
-    if widths != refusals::NONE {
-        return widths;
-    }
-    rules_refusal(list, n)
 }
 
 // The refusal that a write of at most `most` gates into `room` bytes gets.
@@ -82,35 +91,62 @@ fn write_refusal(list: &[u8], room: usize, distance: u8, most: usize) -> u32
     refusals::NONE
 }
 
-// Writes the n gates of a list from bit 16 on, a piece at a time.
+// Writes the gate at `at` of a list from bit p on: its pieces, one behind the other, are one number. Each is cut to its width but the distance, which
+// stands above the others, where the field ends.
+fn put_gate(out: &mut [u8], p: usize, distance: u8, list: &[u8], at: usize)
+    requires { ⌜ (8 ≤ distance) × (distance ≤ 15) × (at + gateBytes ≤ length (now list)) ⌝ }
+    ensures { λ _. ⌜ now (out .exit) ≡ pack (now (out .entry)) p (gateWidths distance) (drop at (now (list .entry))) ⌝ }
+{
+    let far = pair_at(list, at) as u64;
+    let number = (pair_at(list, at + 2) % 1024) as u64;
+    let suffix = (wide(list[at + 4]) % 8) as u64;
+    let manning = (wide(list[at + 5]) % 2) as u64;
+    let class = (wide(list[at + 6]) % 8) as u64;
+    let whistling = (wide(list[at + 7]) % 2) as u64;
+    let whistle = (wide(list[at + 8]) % 4) as u64;
+    let place = far * gates::DISTANCE_WEIGHT + number * gates::NUMBER_WEIGHT;
+    let manned = suffix * gates::SUFFIX_WEIGHT + manning * gates::MANNING_WEIGHT;
+    let whistled = class * gates::CLASS_WEIGHT + whistling * gates::WHISTLING_WEIGHT + whistle;
+    fields::write_wide(
+        out,
+        p,
+        gates::gate_bits(distance),
+        place + manned + whistled,
+    );
+}
+
+// Writes the n gates of a list from bit 16 on.
 fn put_gates(out: &mut [u8], distance: u8, list: &[u8], n: usize)
-    requires { ⌜ (distance ≤ 15) × (n ≤ 31) × (gateBytes * n ≤ length (now list)) ⌝ }
+    requires { ⌜ (8 ≤ distance) × (distance ≤ 15) × (n ≤ 31) × (gateBytes * n ≤ length (now list)) ⌝ }
     ensures { λ _. ⌜ now (out .exit) ≡ pack (now (out .entry)) 16 (times n (gateWidths distance)) (now (list .entry)) ⌝ }
 {
     let mut p = 16;
-    let mut k = 0;
-    while k < gates::GATE_BYTES * n {
-        let w = gates::piece_width(distance, k);
-        fields::write_field(out, p, w, numbers::byte_at(list, k));
-        p += w;
-        k += 1;
+    let mut at = 0;
+    let mut i = 0;
+    while i < n {
+        put_gate(out, p, distance, list, at);
+        p += gates::gate_bits(distance);
+        at += gates::GATE_BYTES;
+        i += 1;
     }
 }
 
-// Writes the whole sub-packet of the n gates of a list, and answers its bytes.
+// Writes the whole sub-packet of the n gates of a list, and answers its bytes. The padding is the end of the last byte, which is cleared before what
+// stands there is written.
 fn put_packet(out: &mut [u8], distance: u8, list: &[u8], n: usize) -> usize
     requires { ⌜ (8 ≤ distance) × (distance ≤ 15) × (n ≤ 31) × (length (now list) ≡ gateBytes * n) ⌝ }
     ensures { λ r. ⌜ r ≡ sizeOf distance n ⌝ }
     ensures { λ _. ⌜ now (out .exit) ≡ written distance (now (list .entry)) (now (out .entry)) ⌝ }
 {
     let count = n as u32;
-    let bits = gates::bits_of(distance, count);
-    let bytes = (bits + 7) / 8;
-    fields::write_field(out, 0, 4, gates::GATE_TYPE);
-    fields::write_field(out, 4, 7, bytes as u32);
-    fields::write_field(out, 11, 5, count);
+    let bytes = (gates::bits_of(distance, count) + 7) / 8;
+    numbers::put_byte(out, bytes - 1, 0);
+    numbers::put_half(
+        out,
+        0,
+        gates::GATE_TYPE * 4096 + bytes as u32 % 128 * 32 + count,
+    );
     put_gates(out, distance, list, n);
-    fields::write_field(out, bits, 8 * bytes - bits, 0);
     bytes
 }
 

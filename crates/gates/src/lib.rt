@@ -1,16 +1,27 @@
-// What reading and writing gates share: the layout of a gate, what is allowed in it, and the answer. `distance` is the width of a gate's
-// distance.
+// What reading and writing gates share: the bits of a gate, what is allowed in it, and the answer. `distance` is the width of a gate's distance.
 use framing::refusals;
 ghost use mathlib.Core.Path.{_≡_};
-ghost use Prim.Native.Nat.{_+_, _*_, _%_, _≤_};
-ghost use lib.ListN.{getD};
-ghost use Rattle.gates.specs.Gates.{gateBytes, gateWidths, countOf, gateBits, bitsOf, gateRules};
+ghost use Prim.Native.Nat.{_+_, _*_, _≤_};
+ghost use Rattle.gates.specs.Gates.{countOf, gateBits, bitsOf, gateRules};
 
 pub const GATE_TYPE: u32 = 3;
 
 pub const DISTANCE_WIDTH: u8 = 15;
 
 pub const GATE_BYTES: usize = 9;
+
+// What one of each field weighs in the number that a gate's bits are. A whistling type is the lowest, and weighs 1.
+pub const DISTANCE_WEIGHT: u64 = 1048576;
+
+pub const NUMBER_WEIGHT: u64 = 1024;
+
+pub const SUFFIX_WEIGHT: u64 = 128;
+
+pub const MANNING_WEIGHT: u64 = 64;
+
+pub const CLASS_WEIGHT: u64 = 8;
+
+pub const WHISTLING_WEIGHT: u64 = 4;
 
 // The highest values that are allowed.
 const LAST_NUMBER: u32 = 1022;
@@ -29,26 +40,11 @@ pub struct GatesAnswer {
     pub bytes: usize,
 }
 
-// The widths of a gate's pieces behind the first, which is what the distance has above its low 8 bits.
-const WIDTHS: [usize; GATE_BYTES] = [0, 8, 2, 8, 3, 1, 3, 1, 2];
-
-// The width of piece k of gates one behind the other.
-pub fn piece_width(distance: u8, k: usize) -> usize
-    ensures { λ r. ⌜ r ≡ getD (gateWidths distance) (k % gateBytes) 0 ⌝ }
-{
-    let j = k % GATE_BYTES;
-    if j == 0 {
-        distance as usize - numbers::at_most(distance as usize, 8)
-    } else {
-        WIDTHS[j]
-    }
-}
-
-// The count of gates that the sub-packet says.
+// The count of gates that the sub-packet says: the 5 lowest digits of the header's 16.
 pub fn count_of(s: &[u8]) -> usize
     ensures { λ r. ⌜ (r ≡ countOf (now (s .entry))) × (r ≤ 31) ⌝ }
 {
-    fields::read_field(s, 11, 5) as usize
+    (numbers::half_at(s, 0) % 32) as usize
 }
 
 // The bits of a gate.

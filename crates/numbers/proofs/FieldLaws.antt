@@ -9,7 +9,7 @@ use native.Mathlib.Nat.{add-zero, add-suc, add-assoc, pow-suc, mod-lt, mul-assoc
 use native.Mathlib.Omega.{arith}
 use lib.ListN.{length, getD, set, take, length-set, List·getD-eq-default}
 use lib.Seq.{getD-set-same, getD-set-other, set-out, ext-getD, getD-take}
-use lib.Pow.{pow-pos, pow-mono, pow-add, high, shr-shr, shr-lt, split, mod-pow-add, mod-mod-pow}
+use lib.Pow.{pow-pos, pow-add, high, shr-shr, shr-lt, split, mod-pow-add, mod-mod-pow}
 use lib.Pow.{field as mod-pow-div}
 use native.Mathlib.Numerals.{add-one, one-add}
 use Rattle.numbers.specs.Fields.{bitAt, field, withDigit, putBit, put}
@@ -33,11 +33,6 @@ pub field-lt : (s : List ℕ) (p w : ℕ) → field s p w < 2 ^ w
 unfolding field
 field-lt s p zero = omega arith
 field-lt s p (suc w) = rw pow-suc (omega (arith, field-lt s p w, bit-lt s (p + w)))
-
--- a field of fewer than n bits may be doubled in n
-pub field-small : (s : List ℕ) (p w n : ℕ) → w < n → field s p w * 2 + 1 < 2 ^ n
-field-small s p w n h =
-    omega (arith, field-lt s p w, rw pow-suc at (pow-mono {i = suc w} {j = n} h))
 
 -- past the end every bit is 0
 pub bit-past : (s : List ℕ) (p : ℕ) → length s ≤ p / 8 → bitAt s p ≡ 0
@@ -218,7 +213,7 @@ field-put-out s p w v q n h =
     (λ i l. bit-put-out s p w v (q + i) (⊎-map (λ a. omega arith) (λ a. omega arith) h))
 
 -- writing what t has at a bit position makes the bits there those of t
-pub bit-put-field : (s t : List ℕ) (p w q : ℕ) → p + w ≤ 8 * length s → p ≤ q → q < p + w → bitAt (put s p w (field t p w)) q ≡ bitAt t q
+pub bit-put-field : (s t : List ℕ) (p w q : ℕ) → q < 8 * length s → p ≤ q → q < p + w → bitAt (put s p w (field t p w)) q ≡ bitAt t q
 unfolding put field
 bit-put-field s t p zero q h a b = omega arith
 bit-put-field s t p (suc w) q h a b =
@@ -273,23 +268,24 @@ same-byte s t i hs ht h =
 pub same-bytes : (s t : List ℕ) (n i : ℕ) → Bytes s → Bytes t → ((q : ℕ) → q < 8 * n → bitAt s q ≡ bitAt t q) → i < n → getD s i 0 ≡ getD t i 0
 same-bytes s t n i hs ht h l = same-byte s t i hs ht (λ q a b. h q (omega arith))
 
--- writing what is read at a bit position changes nothing
-pub put-field : (s : List ℕ) (p w : ℕ) → Bytes s → p + w ≤ 8 * length s → put s p w (field s p w) ≡ s
-put-field s p w hs h =
+-- writing what is read at a bit position changes nothing, also where it reaches past the end
+pub put-field : (s : List ℕ) (p w : ℕ) → Bytes s → put s p w (field s p w) ≡ s
+put-field s p w hs =
     ext-getD 0 (put s p w (field s p w)) s (length-put s p w (field s p w))
     (λ i l.
+    let e : length (put s p w (field s p w)) ≡ length s = length-put s p w (field s p w) in
     same-bytes (put s p w (field s p w)) s (suc i) i (bytes-put s p w (field s p w) hs) hs
-    (λ q m. bit-put-self q) (omega arith))
+    (λ q m. bit-put-self q (omega arith)) (omega arith))
   where
-    inside : (q : ℕ) → p ≤ q → (q < p + w) ⊎ (p + w ≤ q) → bitAt (put s p w (field s p w)) q ≡ bitAt s q
-    inside q a (inl b) = bit-put-field s s p w q h a b
-    inside q a (inr b) = bit-put-out s p w (field s p w) q (inr b)
+    inside : (q : ℕ) → q < 8 * length s → p ≤ q → (q < p + w) ⊎ (p + w ≤ q) → bitAt (put s p w (field s p w)) q ≡ bitAt s q
+    inside q h a (inl b) = bit-put-field s s p w q h a b
+    inside q h a (inr b) = bit-put-out s p w (field s p w) q (inr b)
 
-    bit-put-self : (q : ℕ) → bitAt (put s p w (field s p w)) q ≡ bitAt s q
-    bit-put-self q =
+    bit-put-self : (q : ℕ) → q < 8 * length s → bitAt (put s p w (field s p w)) q ≡ bitAt s q
+    bit-put-self q h =
         ⊎-elim
         (λ a. bit-put-out s p w (field s p w) q (inl a))
-        (λ a. inside q a (lt-or-le q (p + w)))
+        (λ a. inside q h a (lt-or-le q (p + w)))
         (lt-or-le q p)
 
 -- ---- past the end

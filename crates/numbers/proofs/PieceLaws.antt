@@ -2,12 +2,11 @@
 use mathlib.Core.Path.{_≡_, refl, sym, ap, ap₂, _∙_}
 use mathlib.Core.List.{List, [], _∷_, _++_}
 use mathlib.Core.Logic.{⊎-elim, _⊎_, inl, inr}
-use Prim.Native.Nat.{ℕ, zero, suc, _+_, _-_, _*_, _^_, _≤_, _<_}
+use Prim.Native.Nat.{ℕ, zero, suc, _+_, _*_, _^_, _≤_, _<_}
 use native.Mathlib.Nat.{add-assoc, add-zero, add-suc, suc-add, mul-zero, mul-suc}
-use native.Mathlib.Numerals.{add-one}
 use native.Mathlib.Omega.{arith}
-use lib.ListN.{length, getD, set, take, drop, length-append, length-take, length-drop}
-use lib.Seq.{sets, ext-getD, getD-take, getD-drop, drop-cons}
+use lib.ListN.{length, take, drop, length-append, length-take, length-drop}
+use lib.Seq.{sets, ext-getD, getD-take, getD-drop}
 use Rattle.numbers.specs.Fields.{bitAt, field, put}
 use Rattle.numbers.proofs.FieldLaws.{length-put, field-front, bit-put-out, field-put, bit-put-field, field-ext, Bytes, bytes-put, same-byte, same-bytes, lt-or-le}
 use Rattle.numbers.specs.Pieces.{total, times, unpack, pack}
@@ -20,10 +19,6 @@ length-unpack s p (w ∷ ws) = ap suc (length-unpack s (p + w) ws)
 pub unpack-nil : (s : List ℕ) (p : ℕ) → unpack s p [] ≡ []
 unfolding unpack
 unpack-nil s p = refl
-
-pub unpack-cons : (s : List ℕ) (p w : ℕ) (ws : List ℕ) → unpack s p (w ∷ ws) ≡ field s p w ∷ unpack s (p + w) ws
-unfolding unpack
-unpack-cons s p w ws = refl
 
 pub total-append : (vs ws : List ℕ) → total (vs ++ ws) ≡ total vs + total ws
 unfolding total
@@ -135,12 +130,6 @@ pub sets-append : (l : List ℕ) (i : ℕ) (xs ys : List ℕ) → sets l i (xs +
 sets-append l i [] ys = rw add-zero
 sets-append l i (x ∷ xs) ys = rw (add-suc, ← suc-add) (sets-append _ (suc i) xs ys)
 
--- a turn of the loop that stores the pieces: what is left to store, stored, stays the same
-pub fill-step : (l s : List ℕ) (i q : ℕ) (ws : List ℕ) (j w : ℕ) → j < length ws → w ≡ getD ws j 0
-    → sets (set l i (field s q w)) (i + 1) (unpack s (q + w) (drop (j + 1) ws)) ≡ sets l i (unpack s q (drop j ws))
-fill-step l s i q ws j w h e =
-    rw (add-one, add-one, e) (ap (sets l i) (sym (unpack-cons s q (getD ws j 0) (drop (suc j) ws)) ∙ ap (unpack s q) (sym (drop-cons ws j 0 h))))
-
 pub times-suc : (n : ℕ) (ws : List ℕ) → times (suc n) ws ≡ ws ++ times n ws
 unfolding times
 times-suc n ws = refl
@@ -175,9 +164,3 @@ unfolding pack
 pack-extra o p [] xs ys e = refl
 pack-extra o p (w ∷ ws) [] ys e = absurd (omega arith)
 pack-extra o p (w ∷ ws) (x ∷ xs) ys e = pack-extra (put o p w x) (p + w) ws xs ys (omega arith)
-
--- a turn of the loop that writes the pieces
-pub put-step : (o vs : List ℕ) (q : ℕ) (ws : List ℕ) (i j w : ℕ) → j < length ws → i < length vs → w ≡ getD ws j 0
-    → pack (put o q w (getD vs i 0)) (q + w) (drop (j + 1) ws) (drop (i + 1) vs) ≡ pack o q (drop j ws) (drop i vs)
-unfolding pack
-put-step o vs q ws i j w hj hi e = rw (add-one, add-one, e, drop-cons ws j 0 hj, drop-cons vs i 0 hi)

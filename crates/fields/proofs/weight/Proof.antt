@@ -8,7 +8,7 @@ use Rattle.fields.proofs.weight.Statement.{statement}
 use Rattle.fields.proofs.weight.Tie as tie
 
 returns : tie.Need-returns
-returns c = shl-exact {a = 1} 1 (c .args .k) 32 (omega arith) (omega arith) ∙ one-mul _
+returns c = shl-exact {a = 1} 1 (c .args .k) 64 (omega arith) (omega arith) ∙ one-mul _
 
 pub weight-spec : {M : Type 1} → statement M
-weight-spec = tie.close (tie.spec (λ c. search needs) (λ c. search needs) returns)
+weight-spec = tie.close (tie.spec (λ c. search needs) returns)

@@ -1,54 +1,50 @@
 -- `gate_reading::rules_refusal` meets its contract. The invariant: the refusal of the gates left is that of all.
-use Prim.Native.Nat.{ℕ, _+_, _-_, _*_, _≤_}
+use Prim.Native.Nat.{ℕ, _+_, _-_, _≤_}
 use mathlib.Core.Path.{_≡_, sym, ap, _∙_}
 use mathlib.Core.List.{List}
 use native.Mathlib.Omega.{arith}
-use Rattle.numbers.specs.Pieces.{times, unpack}
-use Rattle.gates.specs.Gates.{gateWidths, rulesRefusal}
+use lib.Seq.{slice}
+use Rattle.gates.specs.Gates.{rulesRefusal}
 use Rattle.gates.proofs.GateLaws.{rules-none}
+use Rattle.gate_reading.specs.Steps.{spread}
 use Rattle.gate_reading.proofs.ReadingLaws.{rules-stop, rules-go}
 use borrow.Author.Needs.{needs}
 use Rattle.gate_reading.proofs.rules_refusal.Statement.{statement}
 use Rattle.gate_reading.proofs.rules_refusal.Tie as tie
 
--- the refusal of the gates from bit p on
-abbrev left : ℕ → List ℕ → ℕ → ℕ → ℕ
-left distance s p m = rulesRefusal (unpack s p (times m (gateWidths distance))) m
-
 abbrev Inv-loop : tie.InvT-loop
-Inv-loop s distance n p₀ i₀ p i =
-    (i ≤ n) × (p ≤ 16 + 35 * i) × (left distance s p (n - i) ≡ left distance s 16 n)
+Inv-loop kept n i₀ i = (i ≤ n) × (rulesRefusal (spread (slice i n kept)) (n - i) ≡ rulesRefusal (spread (slice 0 n kept)) n)
 
 abbrev μ-loop : tie.MeasureT-loop
-μ-loop s distance n p₀ i₀ p i = n - i
+μ-loop kept n i₀ i = n - i
 
 returns : tie.Need-returns Inv-loop μ-loop
-returns c = let l = c .before .before .before .loop in
-    let a = c .before .before .before .before .before .args in
+returns c = let l = c .before .before .before .before .loop in
+    let a = c .before .before .before .before .before .before .args in
     let called = c .before .gate-refusal in
-    rules-stop (a .distance) (a .s .now) (l .p) (a .n - l .i) (omega arith) (omega arith) (called .result) (called .ensures) (c .if1 .taken) ∙ l .inv .2
+    rules-stop (a .kept .now) (l .i) (a .n) (omega arith) (omega arith) (called .result) (called .ensures) (c .if1 .taken) ∙ l .inv .1
 
 loop-again : tie.Need-loop-again Inv-loop μ-loop
 loop-again c = let l = c .before .before .before .before .loop in
     let a = c .before .before .before .before .before .before .args in
-    let called = c .before .before .gate-refusal in
+    let called = c .before .gate-refusal in
     let less : a .n - (l .i + 1) ≡ a .n - l .i - 1 = omega arith in (
       omega arith,
-      omega arith,
-      rw (c .gate-bits .ensures, less)
-          (rules-go (a .distance) (a .s .now) (l .p) (a .n - l .i) (omega arith) (omega arith) (called .result) (called .ensures) (c .before .if1 .left))
-          ∙ l .inv .2,
+      ap (rulesRefusal (spread (slice (l .i + 1) (a .n) (a .kept .now)))) less
+          ∙ rules-go (a .kept .now) (l .i) (a .n) (omega arith) (omega arith) (called .result) (called .ensures) (c .if1 .left)
+          ∙ l .inv .1,
     )
 
 returns-2 : tie.Need-returns-2 Inv-loop μ-loop
 returns-2 c = let l = c .before .loop in
     let a = c .before .before .before .args in
+    let rest : List ℕ = spread (slice (l .i) (a .n) (a .kept .now)) in
     let e : 0 ≡ a .n - l .i = omega arith in
-    sym (rules-none (unpack (a .s .now) (l .p) (times 0 (gateWidths (a .distance))))) ∙ ap (left (a .distance) (a .s .now) (l .p)) e ∙ l .inv .2
+    sym (rules-none rest) ∙ ap (rulesRefusal rest) e ∙ l .inv .1
 
 pub rules-refusal-spec : {M : Type 1} → statement M
 rules-refusal-spec =
     tie.close
     (tie.spec
-    Inv-loop μ-loop (λ c. (omega arith, omega arith, ap (left _ _ 16) (omega arith))) (λ c κs. search needs)
-    returns (λ c κs. search needs) (λ c. search needs) (λ c. search needs) (λ c. search needs) loop-again returns-2)
+    Inv-loop μ-loop (λ c. (omega arith, ap (rulesRefusal _) (omega arith))) (λ c. search needs) (λ c. search needs) (λ c κs. search needs)
+    returns (λ c. search needs) (λ c. search needs) loop-again returns-2)

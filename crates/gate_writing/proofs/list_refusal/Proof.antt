@@ -1,18 +1,48 @@
--- `gate_writing::list_refusal` meets its contract.
-use mathlib.Core.Path.{sym, _∙_}
-use Rattle.framing.proofs.RefusalLaws.{next, ends}
+-- `gate_writing::list_refusal` meets its contract. The invariant: the refusal of the gates left is that of all.
+use Prim.Native.Nat.{_+_, _-_, _*_, _≤_}
+use mathlib.Core.Path.{_≡_, sym, ap, _∙_}
+use native.Mathlib.Omega.{arith}
+use lib.ListN.{drop}
+use Rattle.gates.specs.Gates.{gateBytes}
 use Rattle.gate_writing.specs.Writing.{listRefusal}
+use Rattle.gate_writing.proofs.WritingLaws.{list-none, list-stop, list-go}
 use borrow.Author.Needs.{needs}
 use Rattle.gate_writing.proofs.list_refusal.Statement.{statement}
 use Rattle.gate_writing.proofs.list_refusal.Tie as tie
 
-returns : tie.Need-returns
-unfolding listRefusal
-returns c = ends _ _ (c .before .widths-refusal .ensures) (c .if1 .taken)
+abbrev Inv-loop : tie.InvT-loop
+Inv-loop list distance n at₀ i₀ at i =
+    (i ≤ n) × (at ≡ gateBytes * i) × (listRefusal distance (drop at list) (n - i) ≡ listRefusal distance list n)
 
-returns-2 : tie.Need-returns-2
-unfolding listRefusal
-returns-2 c = next _ _ (sym (c .before .before .widths-refusal .ensures) ∙ c .before .if1 .left) (c .rules-refusal .ensures)
+abbrev μ-loop : tie.MeasureT-loop
+μ-loop list distance n at₀ i₀ at i = n - i
+
+returns : tie.Need-returns Inv-loop μ-loop
+returns c = let l = c .before .before .before .loop in
+    let a = c .before .before .before .before .before .args in
+    list-stop (a .distance) (a .list .now) (l .at) (a .n - l .i) (c .before .gate-refusal .result) (omega arith) (c .before .gate-refusal .ensures) (c .if1 .taken)
+    ∙ l .inv .2
+
+loop-again : tie.Need-loop-again Inv-loop μ-loop
+loop-again c = let l = c .before .before .before .loop in
+    let a = c .before .before .before .before .before .args in
+    let less : a .n - (l .i + 1) ≡ a .n - l .i - 1 = omega arith in (
+      omega arith,
+      omega arith,
+      ap (listRefusal (a .distance) (drop (l .at + gateBytes) (a .list .now))) less
+          ∙ list-go (a .distance) (a .list .now) (l .at) (a .n - l .i) (c .before .gate-refusal .result) (omega arith) (c .before .gate-refusal .ensures) (c .if1 .left)
+          ∙ l .inv .2,
+    )
+
+returns-2 : tie.Need-returns-2 Inv-loop μ-loop
+returns-2 c = let l = c .before .loop in
+    let a = c .before .before .before .args in
+    let e : 0 ≡ a .n - l .i = omega arith in
+    sym (list-none (a .distance) (drop (l .at) (a .list .now))) ∙ ap (listRefusal (a .distance) (drop (l .at) (a .list .now))) e ∙ l .inv .2
 
 pub list-refusal-spec : {M : Type 1} → statement M
-list-refusal-spec = tie.close (tie.spec (λ c κs. search needs) returns (λ c κs. search needs) returns-2)
+list-refusal-spec =
+    tie.close
+    (tie.spec
+    Inv-loop μ-loop (λ c. (omega arith, omega arith, ap (listRefusal _ _) (omega arith))) (λ c κs. search needs) returns (λ c. search needs)
+    (λ c. search needs) (λ c. search needs) loop-again returns-2)

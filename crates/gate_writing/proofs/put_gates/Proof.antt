@@ -1,74 +1,63 @@
 -- `gate_writing::put_gates` meets its contract. The invariant: what is left to write, written, is all the gates.
-use Prim.Native.Nat.{ℕ, _+_, _-_, _*_, _%_, _≤_, min}
+use Prim.Native.Nat.{ℕ, _+_, _-_, _*_, _≤_}
 use mathlib.Core.Path.{_≡_, refl, sym, ap, _∙_}
 use mathlib.Core.List.{List}
 use native.Mathlib.Omega.{arith}
-use lib.ListN.{length, getD, drop, drop-of-length-le}
-use Rattle.numbers.specs.Fields.{put}
+use lib.ListN.{length, drop}
 use Rattle.numbers.specs.Pieces.{times, pack}
-use Rattle.numbers.proofs.NumberLaws.{number-byte}
-use Rattle.numbers.proofs.PieceLaws.{put-step, pack-zero}
-use Rattle.gates.specs.Gates.{gateBytes, gateWidths}
-use Rattle.gates.proofs.GateLaws.{length-pieces, piece-at, piece-small}
+use Rattle.numbers.proofs.PieceLaws.{pack-zero}
+use Rattle.gates.specs.Gates.{gateBytes, gateWidths, gateBits}
+use Rattle.gate_writing.proofs.WritingLaws.{gates-step}
 use borrow.Author.Needs.{needs}
 use Rattle.gate_writing.proofs.put_gates.Statement.{statement}
 use Rattle.gate_writing.proofs.put_gates.Tie as tie
 
 abbrev Inv-loop : tie.InvT-loop
-Inv-loop out₀ distance list n p₀ k₀ out p k =
-    (k ≤ gateBytes * n)
-    × (p ≤ 16 + 8 * k)
+Inv-loop out₀ distance list n p₀ at₀ i₀ out p at i =
+    (i ≤ n)
+    × (at ≡ gateBytes * i)
+    × (p ≤ 16 + 35 * i)
     × (length out ≡ length out₀)
-    × (pack out p (drop k (times n (gateWidths distance))) (drop k list) ≡ pack out₀ 16 (times n (gateWidths distance)) list)
+    × (pack out p (times (n - i) (gateWidths distance)) (drop at list) ≡ pack out₀ 16 (times n (gateWidths distance)) list)
 
 abbrev μ-loop : tie.MeasureT-loop
-μ-loop out₀ distance list n p₀ k₀ out p k = gateBytes * n - k
+μ-loop out₀ distance list n p₀ at₀ i₀ out p at i = n - i
 
--- no piece is wider than a byte
-narrow : (c : tie.After-piece-width Inv-loop μ-loop) → c .piece-width .result ≤ 8
-narrow c =
-    let a = c .before .before .before .before .before .args in
-    omega (arith, piece-small (a .distance) (omega arith) (c .before .before .loop .k % gateBytes))
-
--- what a turn puts is the piece, of the width that it has
-wrote : (c : tie.After-write-field Inv-loop μ-loop) → c .write-field .last .0 ≡ put (c .before .before .before .before .before .loop .out) (c .before .before .before .before .before .loop .p) (c .before .before .before .piece-width .result) (getD (c .before .before .before .before .before .before .before .before .args .list .now) (c .before .before .before .before .before .loop .k) 0)
-wrote c =
-    let l = c .before .before .before .before .before .loop in
-    let known = c .before .before .before .before .before .before in
-    let list = known .before .before .args .list .now in
-    let w : ℕ = c .before .before .before .piece-width .result in
-    let wide : min w 32 ≡ w = omega (arith, narrow (c .before .before .before)) in
-    let byte : c .before .byte-at .result ≡ getD list (l .k) 0 =
-    c .before .byte-at .ensures ∙ number-byte list (l .k) (omega (arith, known .shared-slice-known .given (l .k))) in
-    c .write-field .ensures ∙ (λ i. put (l .out) (l .p) (wide i) (byte i))
+loop-holds : tie.Need-loop-holds Inv-loop μ-loop
+loop-holds c = let a = c .before .before .args in
+    let e : a .n - 0 ≡ a .n = omega arith in
+    (omega arith, omega arith, omega arith, refl, ap (λ (k : ℕ). pack (a .out .now) 16 (times k (gateWidths (a .distance))) (a .list .now)) e)
 
 loop-again : tie.Need-loop-again Inv-loop μ-loop
-loop-again c = let called = c .before .before in
-    let w = called .before .before .before .piece-width in
-    let l = called .before .before .before .before .before .loop in
-    let a = called .before .before .before .before .before .before .before .before .args in
-    let ws : List ℕ = times (a .n) (gateWidths (a .distance)) in (
+loop-again c = let made = c .before .before .before .put-gate in
+    let l = c .before .before .before .before .before .before .loop in
+    let start = c .before .before .before .before .before .before .before .before .before in
+    let a = start .args in
+    let d : ℕ = a .distance in
+    let ws : List ℕ = gateWidths d in
+    let left : List ℕ = drop (l .at + gateBytes) (a .list .now) in
+    let less : a .n - (l .i + 1) ≡ a .n - l .i - 1 = omega arith in
+    let bits : c .gate-bits .result ≡ gateBits d = c .gate-bits .ensures in (
       omega arith,
-      omega (arith, narrow (called .before .before .before)),
-      called .write-field .kept .0 ∙ l .inv .2,
-      ap (λ (o : List ℕ). pack o (l .p + w .result) (drop (l .k + 1) ws) (drop (l .k + 1) (a .list .now))) (wrote called)
-          ∙ put-step (l .out) (a .list .now) (l .p) ws (l .k) (l .k) (w .result) (rw length-pieces (omega arith)) (omega arith)
-          (w .ensures ∙ sym (piece-at (a .distance) (a .n) (l .k) (omega arith)))
-          ∙ l .inv .3,
+      omega arith,
+      omega (arith, start .pre),
+      made .kept .0 ∙ l .inv .3,
+      (λ j. pack (made .ensures j) (l .p + bits j) (times (less j) ws) left)
+          ∙ gates-step d (l .out) (l .p) (a .list .now) (l .at) (a .n - l .i) (omega (arith, start .pre)) (omega arith)
+          ∙ l .inv .4,
     )
 
 returns : tie.Need-returns Inv-loop μ-loop
+unfolding times
 returns c = let l = c .before .loop in
     let a = c .before .before .before .before .args in
-    let ws : List ℕ = times (a .n) (gateWidths (a .distance)) in
-    sym (pack-zero (l .out) (l .p) (drop (l .k) (a .list .now)))
-    ∙ ap (λ (v : List ℕ). pack (l .out) (l .p) v (drop (l .k) (a .list .now))) (sym (drop-of-length-le ws {i = l .k} (rw length-pieces (omega arith))))
-    ∙ l .inv .3
+    let v : List ℕ = drop (l .at) (a .list .now) in
+    let e : 0 ≡ a .n - l .i = omega arith in
+    sym (pack-zero (l .out) (l .p) v) ∙ ap (λ (k : ℕ). pack (l .out) (l .p) (times k (gateWidths (a .distance))) v) e ∙ l .inv .4
 
 pub put-gates-spec : {M : Type 1} → statement M
 put-gates-spec =
     tie.close
     (tie.spec
-    Inv-loop μ-loop (λ c. (omega arith, omega arith, refl, refl)) (λ c. search needs) (λ c κs. search needs) (λ c κs. search needs)
-    (λ c κs. search needs) (λ c. omega (arith, narrow (c .before .before .before .before .before))) (λ c. search needs) (λ c. search needs) loop-again
-    (λ c. c .before .loop .inv .2) returns)
+    Inv-loop μ-loop loop-holds (λ c κs. search needs) (λ c κs. search needs) (λ c. search needs)
+    (λ c. search needs) (λ c. search needs) (λ c. search needs) loop-again (λ c. c .before .loop .inv .3) returns)

@@ -1,39 +1,34 @@
 -- `gate_writing::put_packet` meets its contract: one write after the other makes the sub-packet.
-use Prim.Native.Nat.{ℕ, _+_, _-_, _*_, _/_, min}
+use Prim.Native.Nat.{ℕ, _+_, _-_, _*_, _/_, _%_}
 use mathlib.Core.Path.{_≡_, ap, _∙_}
 use native.Mathlib.Omega.{arith}
-use Rattle.numbers.specs.Fields.{put}
-use Rattle.gates.specs.Gates.{bitsOf, sizeOf, paddingBits}
+use Rattle.numbers.specs.Numbers.{putNumber}
+use Rattle.gates.specs.Gates.{gateType, sizeOf}
 use Rattle.gate_writing.specs.Writing.{gatesIn}
-use Rattle.gate_writing.proofs.WritingLaws.{written-steps}
+use Rattle.gate_writing.proofs.WritingLaws.{header-put, written-steps}
 use borrow.Author.Needs.{needs}
 use Rattle.gate_writing.proofs.put_packet.Statement.{statement}
 use Rattle.gate_writing.proofs.put_packet.Tie as tie
 
 returns : tie.Need-returns
-returns c = let start = c .before .before .before .before .before .before .before .before .before .before .before .before .before .before .before .before .before .before .before .before .before .before .before in
+returns c = let start = c .before .before .before .before .before .before .before .before .before .before .before .before .before .before .before in
     let a = start .args in
     let d : ℕ = a .distance in
-    let bits = c .before .before .before .before .before .before .before .before .before .before .before .before .before .before .before .before .before .before .before .before .bits-of in
-    let one = c .before .before .before .before .before .before .before .before .before .before .before .before .before .before .before .before .before .before .write-field in
-    let two = c .before .before .before .before .before .before .before .before .before .before .before .before .before .before .write-field2 in
-    let three = c .before .before .before .before .before .before .before .before .before .before .write-field3 in
-    let gates = c .before .before .before .before .before .before .put-gates in
-    let four = c .before .before .write-field4 in
-    let n : a .n ≡ gatesIn (a .list .now) = omega (arith, start .pre) in
-    let size : (bits .result + 7) / 8 ≡ sizeOf d (a .n) = ap (λ (b : ℕ). (b + 7) / 8) (bits .ensures .0) in
-    let few : min (8 * ((bits .result + 7) / 8) - bits .result) 32 ≡ 8 * ((bits .result + 7) / 8) - bits .result = omega arith in
-    let last : four .last .0 ≡ put (gates .last .0) (bitsOf d (a .n)) (paddingBits d (a .n)) 0 =
-    four .ensures
-    ∙ ap (λ (w : ℕ). put (gates .last .0) (bits .result) w 0) few
-    ∙ ap (λ (b : ℕ). put (gates .last .0) b (8 * ((b + 7) / 8) - b) 0) (bits .ensures .0) in (
-      size,
-      last
-          ∙ ap (λ (m : ℕ). put (gates .last .0) (bitsOf d m) (paddingBits d m) 0) n
-          ∙ written-steps d (a .list .now) (a .out .now) (one .last .0) (two .last .0) (three .last .0) (gates .last .0) (omega (arith, start .pre)) (omega (arith, start .pre))
-          (one .ensures)
-          (two .ensures ∙ ap (put (one .last .0) 4 7) (size ∙ ap (sizeOf d) n))
-          (three .ensures ∙ ap (put (two .last .0) 11 5) n)
+    let m : ℕ = gatesIn (a .list .now) in
+    let bits = c .before .before .before .before .before .before .before .before .before .before .before .before .bits-of in
+    let last = c .before .before .before .before .before .before .before .before .before .before .put-byte in
+    let head = c .before .before .before .before .before .before .put-half in
+    let gates = c .before .before .put-gates in
+    let n : a .n ≡ m = omega (arith, start .pre) in
+    let bytes : (bits .result + 7) / 8 ≡ sizeOf d (a .n) = ap (λ (b : ℕ). (b + 7) / 8) (bits .ensures .0) in
+    let size : (bits .result + 7) / 8 ≡ sizeOf d m = bytes ∙ ap (sizeOf d) n in (
+      bytes,
+      written-steps d (a .list .now) (a .out .now) (last .last .0) (head .last .0) (gates .last .0) (omega (arith, start .pre))
+          (λ k. omega (arith, c .before .before .before .before .before .before .before .before .before .before .before .before .before .before .slice-known .given k)) (omega (arith, start .pre))
+          (last .ensures ∙ ap (λ (b : ℕ). putNumber 1 (a .out .now) (b - 1) 0) size)
+          (head .ensures
+          ∙ (λ i. putNumber 2 (last .last .0) 0 (gateType * 4096 + size i % 128 * 32 + n i))
+          ∙ header-put (last .last .0) (sizeOf d m) m (λ k. omega (arith, c .before .before .before .before .before .before .before .before .slice-known2 .given k)) (omega (arith, start .pre)))
           (rw n at (gates .ensures)),
     )
 
@@ -41,5 +36,4 @@ pub put-packet-spec : {M : Type 1} → statement M
 put-packet-spec =
     tie.close
     (tie.spec
-    (λ c. search needs) (λ c κs. search needs) (λ c. search needs) (λ c κs. search needs) (λ c. search needs) (λ c κs. search needs)
-    (λ c κs. search needs) (λ c κs. search needs) (λ c. search needs) (λ c. search needs) (λ c κs. search needs) (λ c. search needs) returns)
+    (λ c. search needs) (λ c κs. search needs) (λ c. search needs) (λ c. search needs) (λ c κs. search needs) (λ c. search needs) (λ c. search needs) (λ c. search needs) (λ c. search needs) (λ c. search needs) (λ c κs. search needs) (λ c κs. search needs) (λ c. search needs) returns)

@@ -1,0 +1,60 @@
+-- `gate_reading::take_gates` meets its contract: everything is judged first, and stored afterwards.
+use Prim.Native.Nat.{ℕ}
+use mathlib.Core.Path.{_≡_, refl, sym, ap, _∙_}
+use mathlib.Core.List.{List}
+use native.Mathlib.Omega.{arith}
+use lib.ListN.{length}
+use lib.Seq.{sets, slice}
+use Rattle.framing.proofs.RefusalLaws.{next, ends, unless-none, unless-some}
+use Rattle.gates.specs.Gates.{rulesRefusal}
+use Rattle.gate_reading.specs.Steps.{firstGates, endRefusal, spread}
+use Rattle.gate_reading.proofs.ReadingLaws.{kept-gates, none-taken, end-room}
+use borrow.Author.Needs.{needs}
+use Rattle.gate_reading.proofs.take_gates.Statement.{statement}
+use Rattle.gate_reading.proofs.take_gates.Tie as tie
+
+-- the gates of the sub-packet
+abbrev all : tie.Start → List ℕ
+all c = firstGates (c .args .distance) (c .args .s .now) (c .args .n)
+
+-- are those that were kept
+bytes-eq : (c : tie.After-load-gates) → spread (slice 0 (c .before .before .before .before .before .args .n) (c .load-gates .last .1 .1 .1 .0)) ≡ all (c .before .before .before .before .before)
+bytes-eq c = let a = c .before .before .before .before .before .args in
+    ap (λ (l : List ℕ). spread (slice 0 (a .n) l)) (c .load-gates .ensures)
+    ∙ kept-gates (a .distance) (a .s .now) (a .n) _ (omega arith) (omega arith) (omega arith)
+
+rules-eq : (c : tie.After-rules-refusal) → c .rules-refusal .result ≡ rulesRefusal (all (c .before .before .before .before .before .before .before .before)) (c .before .before .before .before .before .before .before .before .args .n)
+rules-eq c = c .rules-refusal .ensures ∙ ap (λ (l : List ℕ). rulesRefusal l (c .before .before .before .before .before .before .before .before .args .n)) (bytes-eq (c .before .before .before))
+
+end-none : (c : tie.Else3) → endRefusal (c .before .before .before .before .before .before .before .before .before .before .before .args .distance) (c .before .before .before .before .before .before .before .before .before .before .before .args .s .now) (c .before .before .before .before .before .before .before .before .before .before .before .args .n) (length (c .before .before .before .before .before .before .before .before .before .before .before .args .out .now)) ≡ 0
+end-none c = sym (c .before .end-refusal .ensures) ∙ c .if3 .left
+
+returns : tie.Need-returns
+returns c = let a = c .before .before .before .args in
+    none-taken (a .distance) (a .s .now) (a .n) (a .out .now) (c .if1 .taken)
+
+returns-2 : tie.Need-returns-2
+returns-2 c = (ends _ _ (rules-eq (c .before)) (c .if2 .taken), sym (unless-some _ _ _ (c .if2 .taken)))
+
+returns-3 : tie.Need-returns-3
+returns-3 c = (
+  next _ _ (sym (rules-eq (c .before .before .before)) ∙ c .before .before .if2 .left) (c .before .end-refusal .ensures),
+  sym (unless-some _ _ _ (c .if3 .taken)),
+)
+
+fill-gates-requires : tie.Need-fill-gates-requires
+fill-gates-requires c κs = let a = c .before .before .before .before .before .before .before .before .before .before .before .before .before .args in
+    omega (arith, end-room (a .distance) (a .s .now) (a .n) (length (a .out .now)) (end-none (c .before .before)))
+
+returns-4 : tie.Need-returns-4
+returns-4 c = let rules = c .before .before .before .before .before .before .before .before in (
+  next _ _ (sym (rules-eq rules) ∙ c .before .before .before .before .before .before .before .if2 .left) (sym (end-none (c .before .before .before .before .before))),
+  c .before .before .fill-gates .ensures ∙ ap (sets _ 0) (bytes-eq (rules .before .before .before)) ∙ sym (unless-none _ _ _ refl),
+)
+
+pub take-gates-spec : {M : Type 1} → statement M
+take-gates-spec =
+    tie.close
+    (tie.spec
+    returns (λ c. search needs) (λ c κs. search needs) (λ c. search needs) (λ c κs. search needs) returns-2
+    (λ c κs. search needs) returns-3 (λ c. search needs) fill-gates-requires (λ c. search needs) returns-4)
