@@ -17,7 +17,7 @@ ghost use Rattle.rules.specs.Deeds.{meant, endAnswer, changedIf, modeStepped, d
 ghost use Rattle.rules.specs.Ruling.{ruled};
 
 // The answer for a train's end: 1 and the effective end, or zeros for none.
-pub fn end_answer(end: Location) -> Answer
+fn end_answer(end: Location) -> Answer
     ensures { λ r. ⌜ r ≡ endAnswer end ⌝ }
 {
     match end {
