@@ -4,6 +4,10 @@ use crate::answers::{BAD_FIELD, BAD_LENGTH, BAD_PADDING, BAD_TYPE, SHORT};
 
 const GATE_TYPE: u32 = 3;
 const MOST_GATES: usize = 28;
+// The first bits of the header's fields: type 4 bits, length 7, and in a gate sub-packet the count 5.
+const TYPE: usize = 0;
+const LENGTH: usize = 4;
+const COUNT: usize = 11;
 const HEADER_BITS: usize = 16;
 const GATE_BITS: usize = 35;
 /// A gate outside the sub-packet.
@@ -26,13 +30,52 @@ const FIELDS: [Field; 7] = [
     Field { bits: 2, bytes: 1, allowed: 0..=2 },       // whistling type
 ];
 
-#[derive(Clone, Copy, PartialEq, Eq, Debug, Default)]
-pub struct GateAnswer {
+impl Field {
+    /// Whether its bits can hold a value that is not allowed.
+    fn is_judged(&self) -> bool {
+        self.allowed != (0..=(1 << self.bits) - 1)
+    }
+}
+
+#[derive(Clone, Copy, PartialEq, Eq, Debug)]
+pub struct Frame<'a> {
     pub answer: u32,
-    /// Gates read or written.
+    pub place: u32,
+    /// The sub-packet, header included; empty on a refusal.
+    pub packet: &'a [u8],
+}
+
+#[derive(Clone, Copy, PartialEq, Eq, Debug, Default)]
+pub struct GatesRead {
+    pub answer: u32,
+    pub place: u32,
     pub gates: usize,
-    /// Bytes of the sub-packet, read or written.
+    /// Bytes of the sub-packet.
     pub bytes: usize,
+}
+
+/// A writer's refusal tells no place: its input is no sub-packet.
+#[derive(Clone, Copy, PartialEq, Eq, Debug, Default)]
+pub struct GatesWritten {
+    pub answer: u32,
+    pub gates: usize,
+    /// Bytes of the sub-packet.
+    pub bytes: usize,
+}
+
+/// Why a sub-packet is refused, and where: the first bit of the field at fault, counted from the start of the sub-packet.
+struct Refusal {
+    answer: u32,
+    place: u32,
+}
+
+fn refused(answer: u32, bit: usize) -> Refusal {
+    Refusal { answer, place: bit as u32 }
+}
+
+/// Bytes or room that are missing are in no field: their place is 0.
+fn short() -> Refusal {
+    refused(SHORT, 0)
 }
 
 /// At most four bytes as one number, high byte first.
@@ -60,25 +103,25 @@ fn put_bits(bytes: &mut [u8], at: usize, width: usize, value: u32) {
 }
 
 /// The first sub-packet of the input, header included, judged with the given rule for types.
-fn framed(input: &[u8], type_fits: impl Fn(u32) -> bool) -> Result<&[u8], u32> {
+fn framed(input: &[u8], type_fits: impl Fn(u32) -> bool) -> Result<&[u8], Refusal> {
     if input.len() < 2 {
-        return Err(SHORT);
+        return Err(short());
     }
-    if !type_fits(bits(input, 0, 4)) {
-        return Err(BAD_TYPE);
+    if !type_fits(bits(input, TYPE, 4)) {
+        return Err(refused(BAD_TYPE, TYPE));
     }
-    let length = bits(input, 4, 7) as usize;
+    let length = bits(input, LENGTH, 7) as usize;
     if length < 2 {
-        return Err(BAD_LENGTH);
+        return Err(refused(BAD_LENGTH, LENGTH));
     }
-    input.get(..length).ok_or(SHORT)
+    input.get(..length).ok_or(short())
 }
 
-/// Framing: the answer number and the sub-packet, empty on a refusal.
-pub fn frame(input: &[u8]) -> (u32, &[u8]) {
+/// Framing: the first sub-packet of `input`, of any type.
+pub fn frame(input: &[u8]) -> Frame<'_> {
     match framed(input, |kind| kind < 8) {
-        Ok(packet) => (0, packet),
-        Err(answer) => (answer, &[]),
+        Ok(packet) => Frame { answer: 0, place: 0, packet },
+        Err(Refusal { answer, place }) => Frame { answer, place, packet: &[] },
     }
 }
 
@@ -87,39 +130,55 @@ fn gate_packet_length(gates: usize) -> usize {
 }
 
 /// Reads the first sub-packet of `input` as gates into `output`, nine bytes for each.
-pub fn read_gates(input: &[u8], output: &mut [u8]) -> GateAnswer {
+pub fn read_gates(input: &[u8], output: &mut [u8]) -> GatesRead {
     match gates_of(input, output.len()) {
         Ok((packet, gates)) => {
             unpack(packet, &mut output[..gates * GATE_BYTES]);
-            GateAnswer { answer: 0, gates, bytes: packet.len() }
+            GatesRead { answer: 0, place: 0, gates, bytes: packet.len() }
         }
-        Err(answer) => GateAnswer { answer, ..GateAnswer::default() },
+        Err(Refusal { answer, place }) => GatesRead { answer, place, ..GatesRead::default() },
     }
 }
 
 /// The gate sub-packet at the front of the input and its count, with all the reader's rules judged in their order.
-fn gates_of(input: &[u8], room: usize) -> Result<(&[u8], usize), u32> {
+fn gates_of(input: &[u8], room: usize) -> Result<(&[u8], usize), Refusal> {
     let packet = framed(input, |kind| kind == GATE_TYPE)?;
-    let gates = bits(packet, 11, 5) as usize;
+    let gates = bits(packet, COUNT, 5) as usize;
     if packet.len() != gate_packet_length(gates) {
-        return Err(BAD_LENGTH);
+        return Err(refused(BAD_LENGTH, COUNT));
     }
     let mut at = HEADER_BITS;
     for _ in 0..gates {
         for field in &FIELDS {
             if !field.allowed.contains(&bits(packet, at, field.bits)) {
-                return Err(BAD_FIELD);
+                return Err(refused(BAD_FIELD, at));
             }
             at += field.bits;
         }
     }
-    if bits(packet, at, packet.len() * 8 - at) != 0 {
-        return Err(BAD_PADDING);
+    if let Some(set) = (at..packet.len() * 8).find(|&bit| bits(packet, bit, 1) == 1) {
+        return Err(refused(BAD_PADDING, set));
     }
     if room < gates * GATE_BYTES {
-        return Err(SHORT);
+        return Err(short());
     }
     Ok((packet, gates))
+}
+
+/// Every answer and place of a refused read where some field is at fault. It is for programs that say which of them they have met.
+pub fn places() -> Vec<(u32, u32)> {
+    let mut found = vec![(BAD_TYPE, TYPE), (BAD_LENGTH, LENGTH), (BAD_LENGTH, COUNT)];
+    let mut at = HEADER_BITS;
+    for gates in 1..=MOST_GATES {
+        for field in &FIELDS {
+            if field.is_judged() {
+                found.push((BAD_FIELD, at));
+            }
+            at += field.bits;
+        }
+        found.extend((at..8 * gate_packet_length(gates)).map(|bit| (BAD_PADDING, bit)));
+    }
+    found.into_iter().map(|(answer, bit)| (answer, bit as u32)).collect()
 }
 
 fn unpack(packet: &[u8], output: &mut [u8]) {
@@ -137,13 +196,13 @@ fn unpack(packet: &[u8], output: &mut [u8]) {
 }
 
 /// Writes the gates in `input` as one sub-packet to the front of `output`.
-pub fn write_gates(input: &[u8], output: &mut [u8]) -> GateAnswer {
+pub fn write_gates(input: &[u8], output: &mut [u8]) -> GatesWritten {
     match room_to_write(input, output.len()) {
         Ok(bytes) => {
             pack(input, &mut output[..bytes]);
-            GateAnswer { answer: 0, gates: input.len() / GATE_BYTES, bytes }
+            GatesWritten { answer: 0, gates: input.len() / GATE_BYTES, bytes }
         }
-        Err(answer) => GateAnswer { answer, ..GateAnswer::default() },
+        Err(answer) => GatesWritten { answer, ..GatesWritten::default() },
     }
 }
 
@@ -171,9 +230,9 @@ fn room_to_write(input: &[u8], room: usize) -> Result<usize, u32> {
 
 fn pack(input: &[u8], packet: &mut [u8]) {
     packet.fill(0);
-    put_bits(packet, 0, 4, GATE_TYPE);
-    put_bits(packet, 4, 7, packet.len() as u32);
-    put_bits(packet, 11, 5, (input.len() / GATE_BYTES) as u32);
+    put_bits(packet, TYPE, 4, GATE_TYPE);
+    put_bits(packet, LENGTH, 7, packet.len() as u32);
+    put_bits(packet, COUNT, 5, (input.len() / GATE_BYTES) as u32);
     let mut at = HEADER_BITS;
     for gate in input.chunks_exact(GATE_BYTES) {
         let mut rest = gate;

@@ -40,13 +40,73 @@ fn listing(bytes: &[u8]) -> String {
 const ONE_GATE: [u8; 7] = [0x30, 0xE1, 0x05, 0x14, 0x06, 0x12, 0x80];
 const ONE_GATE_OUTSIDE: [u8; 9] = [2, 138, 0, 12, 1, 0, 2, 1, 0];
 
+/// What framing says: the answer, the place and the sub-packet.
+fn frame(bytes: &[u8]) -> (u32, u32, &[u8]) {
+    let packets::Frame { answer, place, packet } = packets::frame(bytes);
+    (answer, place, packet)
+}
+
+/// The answer and place of a read into so much room, which tells no gates and leaves the room as it was where it is refused.
+fn read_into(room: usize, packet: &[u8]) -> (u32, u32) {
+    let mut output = vec![7; room];
+    let read = packets::read_gates(packet, &mut output);
+    if read.answer != 0 {
+        assert_eq!((read.gates, read.bytes, output), (0, 0, vec![7; room]));
+    }
+    (read.answer, read.place)
+}
+
+fn read(packet: &[u8]) -> (u32, u32) {
+    read_into(28 * 9, packet)
+}
+
+/// A sub-packet of so many gates.
+fn sound(gates: usize) -> Vec<u8> {
+    let mut packet = vec![0; 125];
+    let written = packets::write_gates(&ONE_GATE_OUTSIDE.repeat(gates), &mut packet);
+    packet.truncate(written.bytes);
+    packet
+}
+
+/// The same packet with another value in the field of `width` bits from bit `at` on.
+fn with(packet: &[u8], at: usize, width: usize, value: u32) -> Vec<u8> {
+    let mut packet = packet.to_vec();
+    for bit in 0..width {
+        let mask = 0x80 >> ((at + bit) % 8);
+        let byte = &mut packet[(at + bit) / 8];
+        *byte = if value >> (width - 1 - bit) & 1 == 1 { *byte | mask } else { *byte & !mask };
+    }
+    packet
+}
+
+/// The judged fields: their first bits in a gate, their widths and the values that are not allowed.
+const JUDGED: [(usize, usize, &[u32]); 4] = [(15, 10, &[0, 1023]), (25, 3, &[7]), (29, 3, &[7]), (33, 2, &[3])];
+
+/// The same packet with a judged field of a gate wrong.
+fn spoiled(packet: &[u8], gate: usize, (at, width, wrong): (usize, usize, &[u32])) -> Vec<u8> {
+    with(packet, first_bit(gate) + at, width, wrong[0])
+}
+
+/// The first bit of a gate.
+fn first_bit(gate: usize) -> usize {
+    16 + 35 * gate
+}
+
 #[test]
 fn framing() {
-    assert_eq!(packets::frame(&[0x30, 0x40, 9]), (0, &[0x30, 0x40][..]));
-    assert_eq!(packets::frame(&[0x30]), (1, &[][..]));
-    assert_eq!(packets::frame(&[0x80, 0x00]), (2, &[][..]));
-    assert_eq!(packets::frame(&[0x70, 0x20]), (3, &[][..]));
-    assert_eq!(packets::frame(&[0x70, 0x60]), (1, &[][..]));
+    assert_eq!(frame(&[0x30, 0x40, 9]), (0, 0, &[0x30, 0x40][..]));
+    assert_eq!(frame(&[]), (1, 0, &[][..]));
+    assert_eq!(frame(&[0x30]), (1, 0, &[][..]));
+    for kind in 8..16 {
+        assert_eq!(frame(&[kind << 4, 0x00]), (2, 0, &[][..]));
+        assert_eq!(frame(&[kind << 4, 0x40]), (2, 0, &[][..]));
+    }
+    for kind in 0..8 {
+        assert_eq!(frame(&[kind << 4, 0x00]), (3, 4, &[][..]));
+        assert_eq!(frame(&[kind << 4, 0x3F]), (3, 4, &[][..]));
+        assert_eq!(frame(&[kind << 4, 0x60]), (1, 0, &[][..]));
+        assert_eq!(frame(&[kind << 4, 0x7F, 0]), (0, 0, &[kind << 4, 0x7F, 0][..]));
+    }
 }
 
 #[test]
@@ -114,23 +174,135 @@ fn gates_there_and_back() {
         let written = packets::write_gates(&gates, &mut packet);
         assert_eq!((written.answer, written.gates, written.bytes), (0, count, (16 + 35 * count).div_ceil(8)));
         let mut back = [0xFF; 28 * 9];
-        assert_eq!(packets::read_gates(&packet, &mut back), written);
+        let read = packets::read_gates(&packet, &mut back);
+        assert_eq!((read.answer, read.place, read.gates, read.bytes), (0, 0, count, written.bytes));
         assert_eq!(back[..gates.len()], gates[..]);
         assert!(back[gates.len()..].iter().chain(&packet[written.bytes..]).all(|&byte| byte == 0xFF));
     }
 }
 
 #[test]
-fn each_bit_of_the_padding_counts() {
-    for count in 0..=28 {
-        let mut packet = [0; 127];
-        let bytes = packets::write_gates(&ONE_GATE_OUTSIDE.repeat(count), &mut packet).bytes;
-        for bit in 16 + 35 * count..8 * bytes {
-            let mut damaged = packet;
-            damaged[bit / 8] |= 0x80 >> (bit % 8);
-            assert_eq!(packets::read_gates(&damaged, &mut [0; 28 * 9]).answer, 5);
+fn each_ground_has_its_place_in_the_shortest_input() {
+    assert_eq!(read(&[0x30, 0x40]), (0, 0));
+    assert_eq!(read(&ONE_GATE), (0, 0));
+    assert_eq!(read(&[]), (1, 0));
+    assert_eq!(read(&[0x30]), (1, 0));
+    assert_eq!(read(&[0x30, 0x60]), (1, 0));
+    assert_eq!(read_into(8, &ONE_GATE), (1, 0));
+    for kind in (0..16).filter(|&kind| kind != 3) {
+        assert_eq!(read(&[kind << 4, 0x40]), (2, 0));
+    }
+    assert_eq!(read(&[0x30, 0x00]), (3, 4));
+    assert_eq!(read(&[0x30, 0x20]), (3, 4));
+    assert_eq!(read(&[0x30, 0x41]), (3, 11));
+    assert_eq!(read(&[0x30, 0x60, 0]), (3, 11));
+    assert_eq!(read(&with(&ONE_GATE, 31, 10, 0)), (4, 31));
+    let mut padded = ONE_GATE;
+    padded[6] = 0x81;
+    assert_eq!(read(&padded), (5, 55));
+}
+
+#[test]
+fn a_wrong_field_is_told_by_its_first_bit() {
+    for (gates, gate) in [(1, 0), (2, 0), (28, 0), (2, 1), (28, 1), (28, 27)] {
+        for (at, width, wrong) in JUDGED {
+            let place = first_bit(gate) + at;
+            for value in 0..1 << width {
+                let told = if wrong.contains(&value) { (4, place as u32) } else { (0, 0) };
+                assert_eq!(read(&with(&sound(gates), place, width, value)), told);
+            }
+        }
+        // All values are allowed in distance, manning and whistling.
+        for (at, width) in [(0, 15), (28, 1), (32, 1)] {
+            for value in [0, (1 << width) - 1] {
+                assert_eq!(read(&with(&sound(gates), first_bit(gate) + at, width, value)), (0, 0));
+            }
         }
     }
+}
+
+#[test]
+fn of_several_wrong_fields_the_first_is_told() {
+    for (first, one) in JUDGED.into_iter().enumerate() {
+        for (second, other) in JUDGED.into_iter().enumerate() {
+            // In one gate.
+            let both = spoiled(&spoiled(&sound(28), 1, one), 1, other);
+            assert_eq!(read(&both), (4, (first_bit(1) + JUDGED[first.min(second)].0) as u32));
+            // In two: the field of the later gate may be one that comes earlier in a gate.
+            for (gate, later) in [(0, 1), (0, 27), (1, 2), (26, 27)] {
+                let both = spoiled(&spoiled(&sound(28), later, other), gate, one);
+                assert_eq!(read(&both), (4, (first_bit(gate) + one.0) as u32));
+            }
+        }
+    }
+    let all = (0..28).flat_map(|gate| JUDGED.map(|field| (gate, field)));
+    let last = all.rev().fold(sound(28), |packet, (gate, field)| {
+        let wrong = spoiled(&packet, gate, field);
+        assert_eq!(read(&wrong), (4, (first_bit(gate) + field.0) as u32));
+        wrong
+    });
+    assert_eq!(read(&last), (4, 31));
+}
+
+#[test]
+fn the_first_bit_set_of_the_padding_is_told() {
+    for count in 0..=28 {
+        let (packet, behind) = (sound(count), [0xFF; 2]);
+        let padding = first_bit(count)..8 * packet.len();
+        assert_eq!(padding.len(), 5 * count % 8);
+        assert_eq!(read(&[&packet[..], &behind].concat()), (0, 0));
+        for bit in padding.clone() {
+            let one = with(&packet, bit, 1, 1);
+            assert_eq!(read(&one), (5, bit as u32));
+            assert_eq!(read_into(0, &one), (5, bit as u32));
+            for later in bit..padding.end {
+                assert_eq!(read(&with(&one, later, 1, 1)), (5, bit as u32));
+            }
+        }
+        if !padding.is_empty() {
+            let all = with(&packet, padding.start, padding.len(), u32::MAX);
+            assert_eq!(read(&all), (5, padding.start as u32));
+        }
+    }
+}
+
+/// From wholly wrong to sound: each step mends what was told.
+#[test]
+fn the_place_is_that_of_the_ground_judged_first() {
+    let count = with(&ONE_GATE, 11, 5, 2);
+    let wrong = JUDGED.into_iter().fold(with(&count, 51, 5, 31), |packet, field| spoiled(&packet, 0, field));
+    let wrong = with(&wrong, 4, 7, 1);
+    let told = |packet: &[u8]| read_into(0, packet);
+    assert_eq!(told(&with(&wrong, 0, 4, 8)[..1]), (1, 0));
+    assert_eq!(told(&with(&wrong, 0, 4, 8)), (2, 0));
+    assert_eq!(told(&wrong), (3, 4));
+    let wrong = with(&wrong, 4, 7, 7);
+    assert_eq!(told(&wrong[..6]), (1, 0));
+    assert_eq!(told(&wrong), (3, 11));
+    let wrong = with(&wrong, 11, 5, 1);
+    assert_eq!(told(&wrong), (4, 31));
+    let wrong = with(&wrong, 31, 10, 12);
+    assert_eq!(told(&wrong), (4, 41));
+    let wrong = with(&wrong, 41, 3, 1);
+    assert_eq!(told(&wrong), (4, 45));
+    let wrong = with(&wrong, 45, 3, 2);
+    assert_eq!(told(&wrong), (4, 49));
+    let wrong = with(&wrong, 49, 2, 0);
+    assert_eq!(told(&wrong), (5, 51));
+    let mended = with(&wrong, 51, 5, 0);
+    assert_eq!(told(&mended), (1, 0));
+    assert_eq!((read(&mended), &mended[..]), ((0, 0), &ONE_GATE[..]));
+}
+
+#[test]
+fn every_place_is_listed() {
+    let mut places = vec![(2, 0), (3, 4), (3, 11)];
+    for gate in 0..28 {
+        places.extend(JUDGED.map(|(at, ..)| (4, (first_bit(gate) + at) as u32)));
+        places.extend((first_bit(gate + 1)..8 * sound(gate + 1).len()).map(|bit| (5, bit as u32)));
+    }
+    assert_eq!(packets::places(), places);
+    assert_eq!(places.len(), 3 + 4 * 28 + 102);
 }
 
 #[test]
@@ -139,7 +311,9 @@ fn frame_ages() {
     assert_eq!((age.answer, age.age, age.fresh, age.stale, age.recent), (0, 4, false, false, true));
     assert!(clock::frame_age(86_400, 86_370).stale);
     assert!(clock::frame_age(3, 1).fresh);
-    for (station, onboard, age) in [(1, 86_399, 1), (1, 86_400, 0), (86_400, 1, 43_199), (1, 2, 43_199), (11, 20, 43_195)] {
+    for (station, onboard, age) in
+        [(1, 86_399, 1), (1, 86_400, 0), (86_400, 1, 43_199), (1, 2, 43_199), (11, 20, 43_195)]
+    {
         assert_eq!(clock::frame_age(station, onboard).age, age);
     }
     for (station, onboard) in [(0, 0), (0, 1), (1, 0), (86_401, 1), (1, 86_401)] {
