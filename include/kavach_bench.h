@@ -114,6 +114,7 @@ typedef struct kb_answer {
 
 typedef struct kb_frame_answer {
     uint32_t answer;
+    uint32_t place; /* of a refusal: the first bit of the field at fault */
     size_t offset; /* of the payload within the lent bytes: 0 */
     size_t length; /* the payload's bytes: the whole sub-packet, header included */
 } kb_frame_answer;
@@ -122,11 +123,12 @@ typedef struct kb_frame_answer {
  * Refused: 1 fewer than 2 bytes; 2 type 8 to 15; 3 length below 2; 1 fewer bytes than the length says. Changes nothing. */
 kb_frame_answer kb_frame(const uint8_t *bytes, size_t bytes_len);
 
-typedef struct kb_gates_answer {
+typedef struct kb_gates_read {
     uint32_t answer;
-    size_t gates; /* gates read or written */
-    size_t bytes; /* bytes of the sub-packet that was read or written */
-} kb_gates_answer;
+    uint32_t place; /* of a refusal: the first bit of the field at fault */
+    size_t gates;
+    size_t bytes; /* bytes of the sub-packet */
+} kb_gates_read;
 
 /* Reads the gate sub-packet that `bytes` begins with into `gates`, and ignores what follows it. A gate takes KB_GATE_SIZE bytes
  * there: distance 2, number 2, high byte first, then suffix, manning, class, whistling and whistling type, one each.
@@ -134,14 +136,20 @@ typedef struct kb_gates_answer {
  * Refused: 1 fewer than 2 bytes; 2 type not 3; 3 length below 2; 1 fewer bytes than the length says; 3 length not the one for
  * the count, which is (16 + 35 * count) / 8 rounded up; 4 a number not 1 to 1022, a suffix or class of 7, a whistling type
  * of 3; 5 padding not zero; 1 `gates` too small. */
-kb_gates_answer kb_read_gates(const uint8_t *bytes, size_t bytes_len, uint8_t *gates, size_t gates_len);
+kb_gates_read kb_read_gates(const uint8_t *bytes, size_t bytes_len, uint8_t *gates, size_t gates_len);
+
+typedef struct kb_gates_written {
+    uint32_t answer;
+    size_t gates;
+    size_t bytes; /* bytes of the sub-packet */
+} kb_gates_written;
 
 /* Writes all of `gates`, laid out as kb_read_gates leaves them, as one sub-packet to the start of `bytes`. KB_PACKET_SIZE bytes
  * always do. Writing what was read gives the same sub-packet again.
  * Changes: the sub-packet's bytes of `bytes`; what lies behind them stays.
  * Refused: 3 `gates` not a multiple of 9 bytes, or over 28 gates; 4 a field not allowed (as above) or too large for its width
  * (distance at most 32,767; manning and whistling 0 or 1); 1 `bytes` too small. */
-kb_gates_answer kb_write_gates(const uint8_t *gates, size_t gates_len, uint8_t *bytes, size_t bytes_len);
+kb_gates_written kb_write_gates(const uint8_t *gates, size_t gates_len, uint8_t *bytes, size_t bytes_len);
 
 typedef struct kb_age_answer {
     uint32_t answer;

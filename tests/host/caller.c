@@ -81,7 +81,15 @@ static void put_answer(kb_answer a)
     reply.words[3] = a.third;
 }
 
-static void put_gates(kb_gates_answer a)
+static void put_read(kb_gates_read a)
+{
+    reply.words[0] = a.answer;
+    reply.words[1] = a.place;
+    reply.words[2] = word(a.gates);
+    reply.words[3] = word(a.bytes);
+}
+
+static void put_written(kb_gates_written a)
 {
     reply.words[0] = a.answer;
     reply.words[1] = word(a.gates);
@@ -91,8 +99,9 @@ static void put_gates(kb_gates_answer a)
 static void put_frame(kb_frame_answer a)
 {
     reply.words[0] = a.answer;
-    reply.words[1] = word(a.offset);
-    reply.words[2] = word(a.length);
+    reply.words[1] = a.place;
+    reply.words[2] = word(a.offset);
+    reply.words[3] = word(a.length);
 }
 
 static void put_age(kb_age_answer a)
@@ -185,8 +194,8 @@ static void run(const struct call *c, const uint8_t *given, uint8_t *output)
 {
     switch (c->kind) {
     case FRAME: put_frame(kb_frame(given, c->given)); break;
-    case READ_GATES: put_gates(kb_read_gates(given, c->given, output, c->room)); break;
-    case WRITE_GATES: put_gates(kb_write_gates(given, c->given, output, c->room)); break;
+    case READ_GATES: put_read(kb_read_gates(given, c->given, output, c->room)); break;
+    case WRITE_GATES: put_written(kb_write_gates(given, c->given, output, c->room)); break;
     case FRAME_AGE: put_age(kb_frame_age(c->n[0], c->n[1])); break;
     case NEXT_MODE: put_step(kb_next_mode(c->n[0], given, c->given)); break;
     case SESSION_SIZE: reply.words[0] = word(kb_session_size()); break;

@@ -150,12 +150,12 @@ fn without_session(call: &Call) -> Expected {
     let [a, b, ..] = call.n;
     match call.kind {
         Kind::Frame => {
-            let (answer, packet) = packets::frame(&call.given);
-            Expected::words(&[answer, 0, packet.len() as u32])
+            let packets::Frame { answer, place, packet } = packets::frame(&call.given);
+            Expected::words(&[answer, place, 0, packet.len() as u32])
         }
         Kind::ReadGates => {
             let read = packets::read_gates(&call.given, &mut output);
-            Expected::told(&[read.answer, read.gates as u32, read.bytes as u32], output)
+            Expected::told(&[read.answer, read.place, read.gates as u32, read.bytes as u32], output)
         }
         Kind::WriteGates => {
             let written = packets::write_gates(&call.given, &mut output);
