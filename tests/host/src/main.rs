@@ -18,7 +18,7 @@ mod wire;
 
 use bench_model::header::defined;
 use bench_model::modes::FLAGS;
-use bench_model::packets::GATE_BYTES;
+use bench_model::packets::{places, GATE_BYTES};
 use bench_model::recording::LONGEST;
 use bench_model::session::{ROWS, SLOTS};
 use calls::Calls;
@@ -36,7 +36,8 @@ const WATCHED: usize = 10;
 
 type Batch = Vec<(Call, Expected)>;
 
-/// Every answer number that a call can give. A run of a million calls or more must have seen each, and must have called each function.
+/// Every answer number that a call can give. A run of a million calls or more must have seen each, must have called each function and
+/// must have met each place that a refused gate read can tell.
 const ANSWERS: [u32; 22] = [0, 1, 2, 3, 4, 5, 10, 11, 12, 13, 14, 15, 16, 17, 18, 19, 20, 21, 22, 23, 24, 34];
 
 /// The numbers that the header defines besides the session's size are the model's.
@@ -76,6 +77,13 @@ struct Seen {
     foreign: u64,
     /// Frame ages of a station whose number is the lower one.
     over_midnight: u64,
+    /// Gate reads of sub-packets that were sound and then changed.
+    damaged: u64,
+    /// Gate reads and framings that were refused with a place that is not 0.
+    placed_reads: u64,
+    placed_frames: u64,
+    /// The answers of gate reads, each with its place.
+    places: BTreeSet<(u32, u32)>,
     answers: BTreeMap<u32, u64>,
 }
 
@@ -84,8 +92,12 @@ impl Seen {
     fn missing(&self) -> Option<String> {
         let answer = ANSWERS.iter().find(|&answer| !self.answers.contains_key(answer));
         let kind = (0..=Kind::LongestRecord as u32).find(|kind| !self.kinds.contains(kind));
+        let place = places().into_iter().find(|place| !self.places.contains(place));
         let answer = answer.map(|answer| format!("no call was answered {answer}"));
-        answer.or(kind.map(|kind| format!("no call was of kind {kind} (wire.rs names the kinds)")))
+        let kind = kind.map(|kind| format!("no call was of kind {kind} (wire.rs names the kinds)"));
+        let place = place.map(|(answer, bit)| format!("no gate read was answered {answer} with place {bit}"));
+        let frame = (self.placed_frames == 0).then(|| "no framing was refused with a place that is not 0".into());
+        answer.or(kind).or(place).or(frame)
     }
 
     fn note(&mut self, call: &Call, expected: &Expected, reply: &Reply) {
@@ -97,8 +109,21 @@ impl Seen {
         }
         self.calls += 1;
         self.kinds.insert(call.kind as u32);
-        if call.kind == Kind::FrameAge && call.n[0] < call.n[1] && reply.words[0] == 0 {
-            self.over_midnight += 1;
+        self.note_special(call, reply);
+    }
+
+    /// What the report counts besides the answers.
+    fn note_special(&mut self, call: &Call, reply: &Reply) {
+        let [answer, place, ..] = reply.words;
+        match call.kind {
+            Kind::FrameAge => self.over_midnight += u64::from(call.n[0] < call.n[1] && answer == 0),
+            Kind::Frame => self.placed_frames += u64::from(place != 0),
+            Kind::ReadGates => {
+                self.damaged += u64::from(call.damaged);
+                self.placed_reads += u64::from(place != 0);
+                self.places.insert((answer, place));
+            }
+            _ => {}
         }
     }
 }
@@ -206,6 +231,10 @@ fn run_random(seed: u64, count: u64, command: &[String]) -> Result<(), String> {
     let listed: Vec<String> = seen.answers.iter().map(|(answer, times)| format!("{answer}: {times}")).collect();
     println!("host: answers {}", listed.join(", "));
     println!("host: {} of the frame ages over midnight", seen.over_midnight);
+    println!(
+        "host: {} gate reads and {} framings refused with a place that is not 0; {} gate reads of damaged packets",
+        seen.placed_reads, seen.placed_frames, seen.damaged
+    );
     println!(
         "host: {} calls tried with seed {seed}, {} of them on foreign sessions: no difference",
         seen.calls, seen.foreign

@@ -72,13 +72,15 @@ pub struct Call {
     pub n: [u32; 5],
     pub given: Vec<u8>,
     pub room: u32,
+    /// What is given is a sub-packet that was sound and then changed. The caller is not told.
+    pub damaged: bool,
 }
 
 impl Call {
     pub fn new(kind: Kind, numbers: &[u32]) -> Call {
         let mut n = [0; 5];
         n[..numbers.len()].copy_from_slice(numbers);
-        Call { kind, lent: SESSION, n, given: Vec::new(), room: 0 }
+        Call { kind, lent: SESSION, n, given: Vec::new(), room: 0, damaged: false }
     }
 
     pub fn with(mut self, given: Vec<u8>) -> Call {
