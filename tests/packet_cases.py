@@ -4,7 +4,12 @@
   tests/packet_cases.py stdin  > crates/packet_runs/stdin
   tests/packet_cases.py stdout > crates/packet_runs/stdout
 
-A case is a kind (1 framing, 2 gates read, 3 gates written), the output's room, and the input. The output holds AA before each case.
+A case is a kind (1 framing, 2 gates read, 3 gates written), the output's room, and the input. The output holds AA before each case. The lines,
+where a place is the first bit of the field at fault, counted from the start of the sub-packet:
+
+  1 ANSWER PLACE LENGTH HEX         the sub-packet that was framed: its bytes, and they in hex
+  2 ANSWER PLACE GATES BYTES HEX    the gates read, the sub-packet's bytes, the output in hex
+  3 ANSWER GATES BYTES HEX          the gates written, the sub-packet's bytes, the output in hex
 """
 import random
 import sys
@@ -19,19 +24,28 @@ def bits(data, at, width):
     return whole >> (8 * len(data) - at - width) & ((1 << width) - 1)
 
 
+def end(gates):
+    """the bit behind so many gates"""
+    return 16 + 35 * gates
+
+
 def size(gates):
-    return (16 + 35 * gates + 7) // 8
+    return (end(gates) + 7) // 8
 
 
-def pack(gates, length=None, count=None, padding=0, kind=3):
+def padding(gates):
+    """the bits that fill up to a byte"""
+    return 8 * size(gates) - end(gates)
+
+
+def pack(gates, length=None, count=None, pad=0, kind=3):
     """a gate sub-packet, or one that is wrong in a named way"""
     n = size(len(gates))
     value = kind << 12 | (n if length is None else length) << 5 | (len(gates) if count is None else count)
     for gate in gates:
         for name, width in WIDTHS:
             value = value << width | gate[name]
-    pad = 8 * n - 16 - 35 * len(gates)
-    return (value << pad | padding).to_bytes(n, "big")
+    return (value << padding(len(gates)) | pad).to_bytes(n, "big")
 
 
 def outside(gates):
@@ -41,40 +55,57 @@ def outside(gates):
 
 
 def frame(data, types=range(8)):
+    """the answer, and the place"""
     if len(data) < 2:
-        return 1
+        return 1, 0
     if bits(data, 0, 4) not in types:
-        return 2
+        return 2, 0
     length = bits(data, 4, 7)
     if length < 2:
-        return 3
+        return 3, 4
     if len(data) < length:
-        return 1
-    return 0
+        return 1, 0
+    return 0, 0
+
+
+def first_wrong(data, count):
+    """the first bit of the first field that is not allowed, or None"""
+    at = 16
+    for _ in range(count):
+        for name, width in WIDTHS:
+            if name in ALLOWED and bits(data, at, width) not in ALLOWED[name]:
+                return at
+            at += width
+    return None
+
+
+def first_set(data, count):
+    """the first bit of the padding that is set, or None: where the number that all of it makes has its top bit"""
+    value = bits(data, end(count), padding(count))
+    return 8 * size(count) - value.bit_length() if value else None
+
+
+def gates_in(data, count):
+    return [{name: bits(data, end(n) + sum(before for _, before in WIDTHS[:i]), width) for i, (name, width) in enumerate(WIDTHS)} for n in range(count)]
 
 
 def read(data, room):
-    """the answer, and the gates"""
-    refusal = frame(data, range(3, 4))
+    """the answer, the place, and the gates"""
+    refusal, place = frame(data, range(3, 4))
     if refusal:
-        return refusal, []
+        return refusal, place, []
     count = bits(data, 11, 5)
     if bits(data, 4, 7) != size(count):
-        return 3, []
-    gates, at = [], 16
-    for _ in range(count):
-        gate = {}
-        for name, width in WIDTHS:
-            gate[name] = bits(data, at, width)
-            at += width
-        if any(gate[name] not in allowed for name, allowed in ALLOWED.items()):
-            return 4, []
-        gates.append(gate)
-    if bits(data, at, 8 * size(count) - at):
-        return 5, []
+        return 3, 11, []
+    wrong = first_wrong(data, count)
+    if wrong is not None:
+        return 4, wrong, []
+    pad = first_set(data, count)
+    if pad is not None:
+        return 5, pad, []
     if room < 9 * count:
-        return 1, []
-    return 0, gates
+        return 1, 0, []
+    return 0, 0, gates_in(data, count)
 
 
 def write(data, room):
@@ -96,13 +127,13 @@ def write(data, room):
 def expected(kind, room, data):
     out = b"\xaa" * room
     if kind == 1:
-        answer = frame(data)
+        answer, place = frame(data)
         sub = data[:bits(data, 4, 7)] if answer == 0 else b""
-        return f"1 {answer} 0 {len(sub)} {sub.hex()}"
+        return f"1 {answer} {place} {len(sub)} {sub.hex()}"
     if kind == 2:
-        answer, gates = read(data, room)
+        answer, place, gates = read(data, room)
         list_ = outside(gates)
-        return f"2 {answer} {len(gates)} {0 if answer else size(len(gates))} {(list_ + out[len(list_):]).hex()}"
+        return f"2 {answer} {place} {len(gates)} {0 if answer else size(len(gates))} {(list_ + out[len(list_):]).hex()}"
     answer, packet = write(data, room)
     return f"3 {answer} {0 if answer else len(data) // 9} {len(packet)} {(packet + out[len(packet):]).hex()}"
 
@@ -115,6 +146,76 @@ def gate(**changed):
 def some_gate(r):
     return {"distance": r.randrange(1 << 15), "number": r.randrange(1, 1023), "suffix": r.randrange(7), "manning": r.randrange(2), "class": r.randrange(7),
             "whistling": r.randrange(2), "type": r.randrange(3)}
+
+
+# A value that is not allowed in each field that has one; a number has two.
+WRONG = (("number", 0), ("number", 1023), ("suffix", 7), ("class", 7), ("type", 3))
+
+
+def spoiled(gates, *wrong):
+    """the gates with some fields wrong, each said by gate, name and value"""
+    changed = [dict(g) for g in gates]
+    for n, name, value in wrong:
+        changed[n][name] = value
+    return changed
+
+
+def place_cases():
+    """sub-packets that tell where they broke"""
+    r = random.Random(3)
+    # framing and reading: every type with lengths below 2, with the bytes of a longer one and without
+    for kind in range(16):
+        for length in (0, 1):
+            yield 1, 0, bytes([kind << 4, length << 5 | 31])
+            yield 2, 0, bytes([kind << 4, length << 5, 0xFF])
+    # every field that has a wrong value, in the first, a middle and the last gate
+    many = [some_gate(r) for _ in range(28)]
+    for n in (0, 13, 27):
+        for name, value in WRONG:
+            yield 2, 2, pack(spoiled(many, (n, name, value)))
+    # two wrong fields in one gate, and in two gates: also one that comes earlier in the later gate
+    three = [some_gate(r) for _ in range(3)]
+    for i, (name, value) in enumerate(WRONG):
+        for other, wrong in WRONG[i + 1:]:
+            if name != other:
+                yield 2, 27, pack(spoiled(three, (1, name, value), (1, other, wrong)))
+        for other, wrong in WRONG[1:]:
+            yield 2, 2, pack(spoiled(three, (0, name, value), (2, other, wrong)))
+            yield 2, 2, pack(spoiled(three, (1, name, value), (2, other, wrong)))
+    yield 2, 2, pack(spoiled(many, *((n, name, value) for n in range(28) for name, value in WRONG)))
+    yield 2, 2, pack(spoiled(many, *((n, name, value) for n in range(20, 28) for name, value in WRONG[1:])))
+    # what is free beside a wrong field, at its least and its greatest, and beside none
+    for distance in (0, 32767):
+        for manning in (0, 1):
+            for whistling in (0, 1):
+                free = gate(distance=distance, manning=manning, whistling=whistling)
+                yield 2, 9, pack([free])
+                for name, value in WRONG:
+                    yield 2, 0, pack([free | {name: value}])
+    for name, value in WRONG:
+        yield 2, 0, pack([gate(distance=32767, suffix=6, manning=1, whistling=1, **{"class": 6}) | {name: value}, gate(distance=0)])
+    # eight counts running have a padding of 5, 2, 7, 4, 1, 6, 3 and 0 bits: each bit alone, all together, and the first with the last
+    assert sorted(map(padding, range(1, 9))) == list(range(8))
+    for n in (*range(1, 9), 28):
+        gates, width = [some_gate(r) for _ in range(n)], padding(n)
+        yield 2, 9 * n, pack(gates) + b"\xff"
+        for bit in range(width):
+            yield 2, 0, pack(gates, pad=1 << bit)
+        if width:
+            yield 2, 0, pack(gates, pad=(1 << width) - 1)
+            yield 2, 0, pack(gates, pad=1 << width - 1 | 1)
+        yield 2, 0, pack(spoiled(gates, (n - 1, "type", 3)), pad=(1 << width) - 1)
+    # two bits of the longest padding
+    for first in range(7):
+        for second in range(first):
+            yield 2, 0, pack(three, pad=1 << first | 1 << second)
+    # the order of the grounds: each case lacks the ground that the one before was refused for
+    wrong = spoiled([gate()], *((0, name, value) for name, value in WRONG))
+    for packet in (pack(wrong, kind=8, length=1, count=2, pad=31)[:1], pack(wrong, kind=8, length=1, count=2, pad=31),
+                   pack(wrong, length=1, count=2, pad=31), pack(wrong, count=2, pad=31)[:6], pack(wrong, count=2, pad=31), pack(wrong, pad=31),
+                   pack([gate(suffix=7, type=3)], pad=31), pack([gate(type=3)], pad=31), pack([gate()], pad=31), pack([gate()])):
+        yield 2, 8, packet
+        yield 1, 0, packet
 
 
 def cases():
@@ -157,16 +258,16 @@ def cases():
         for value in (good, bad):
             yield 2, 18, pack([gate(), gate(**{name: value})])
             yield 3, 20, outside([gate(), gate(**{name: value})])
-    # each padding bit, what follows the sub-packet, room one byte short
+    # what the padding of one gate may hold, what follows the sub-packet, room one byte short
     for pad in range(8):
-        yield 2, 9, pack([gate()], padding=pad)
+        yield 2, 9, pack([gate()], pad=pad)
     yield 2, 9, one + b"\xff\x00\xff"
     yield 2, 8, one
     yield 2, 20, one
     # the order of the grounds
     yield 2, 0, pack([gate(number=0)], count=2)
-    yield 2, 0, pack([gate(number=0)], padding=1)
-    yield 2, 0, pack([gate()], padding=1)
+    yield 2, 0, pack([gate(number=0)], pad=1)
+    yield 2, 0, pack([gate()], pad=1)
     yield 3, 0, outside([gate(number=0)]) + b"\x00"
     yield 3, 0, outside([gate(number=0)] * 29)
     yield 3, 0, outside([gate(number=0)])
@@ -189,6 +290,7 @@ def cases():
         hurt = bytearray(pack(gates))
         hurt[r.randrange(len(hurt))] ^= 1 << r.randrange(8)
         yield 2, 9 * n + 3, bytes(hurt)
+    yield from place_cases()
 
 
 if sys.argv[1:] == ["stdin"]:

@@ -69,7 +69,7 @@ fn send(seed: u64, count: u64, mut caller: ChildStdin, compared: SyncSender<Batc
     }
 }
 
-/// How often each answer was given, and which functions were called.
+/// How often each answer was given, which functions were called, and what else a run is to show.
 #[derive(Default)]
 struct Seen {
     calls: u64,

@@ -48,9 +48,12 @@ fn room(random: &mut Random, enough: usize) -> usize {
 /// The bytes of one gate that may be sent; in every tenth each value is the least or the greatest.
 fn gate(random: &mut Random) -> [u8; GATE_BYTES] {
     let extreme = random.chance(10);
-    let mut value = |least, greatest| match extreme {
-        true => random.pick(&[least, greatest]),
-        false => random.from(least, greatest),
+    let mut value = |least, greatest| {
+        if extreme {
+            random.pick(&[least, greatest])
+        } else {
+            random.from(least, greatest)
+        }
     };
     let [a, b] = (value(0, 32_767) as u16).to_be_bytes();
     let [c, d] = (value(1, 1_022) as u16).to_be_bytes();
