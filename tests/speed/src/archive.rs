@@ -10,13 +10,23 @@ const SESSION: usize = SESSION_SIZE as usize;
 #[derive(Clone, Copy, Default)]
 pub struct FrameAnswer {
     pub answer: u32,
+    pub place: u32,
     pub offset: usize,
     pub length: usize,
 }
 
 #[repr(C)]
 #[derive(Clone, Copy, Default)]
-pub struct GatesAnswer {
+pub struct GatesRead {
+    pub answer: u32,
+    pub place: u32,
+    pub gates: usize,
+    pub bytes: usize,
+}
+
+#[repr(C)]
+#[derive(Clone, Copy, Default)]
+pub struct GatesWritten {
     pub answer: u32,
     pub gates: usize,
     pub bytes: usize,
@@ -52,19 +62,19 @@ pub struct RecordAnswer {
 extern "C" {
     fn kb_frame(to: *mut FrameAnswer, bytes: *const u8, bytes_len: usize) -> *mut FrameAnswer;
     fn kb_read_gates(
-        to: *mut GatesAnswer,
+        to: *mut GatesRead,
         bytes: *const u8,
         bytes_len: usize,
         gates: *mut u8,
         gates_len: usize,
-    ) -> *mut GatesAnswer;
+    ) -> *mut GatesRead;
     fn kb_write_gates(
-        to: *mut GatesAnswer,
+        to: *mut GatesWritten,
         gates: *const u8,
         gates_len: usize,
         bytes: *mut u8,
         bytes_len: usize,
-    ) -> *mut GatesAnswer;
+    ) -> *mut GatesWritten;
     fn kb_frame_age(to: *mut AgeAnswer, station: u32, onboard: u32) -> *mut AgeAnswer;
     fn kb_next_mode(mode: u32, flags: *const u8, flags_len: usize) -> Answer;
     fn kb_start(session: *mut u8, len: usize) -> Answer;
@@ -94,14 +104,14 @@ pub fn frame(bytes: &[u8]) -> FrameAnswer {
     to
 }
 
-pub fn read_gates(bytes: &[u8], gates: &mut [u8]) -> GatesAnswer {
-    let mut to = GatesAnswer::default();
+pub fn read_gates(bytes: &[u8], gates: &mut [u8]) -> GatesRead {
+    let mut to = GatesRead::default();
     unsafe { kb_read_gates(&mut to, bytes.as_ptr(), bytes.len(), gates.as_mut_ptr(), gates.len()) };
     to
 }
 
-pub fn write_gates(gates: &[u8], bytes: &mut [u8]) -> GatesAnswer {
-    let mut to = GatesAnswer::default();
+pub fn write_gates(gates: &[u8], bytes: &mut [u8]) -> GatesWritten {
+    let mut to = GatesWritten::default();
     unsafe { kb_write_gates(&mut to, gates.as_ptr(), gates.len(), bytes.as_mut_ptr(), bytes.len()) };
     to
 }

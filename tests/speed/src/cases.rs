@@ -153,7 +153,7 @@ fn framing() -> Makers {
         },
         |count| {
             let packet = packet(count);
-            alone(move || assert_eq!(packets::frame(black_box(&packet)).1.len(), packet.len()))
+            alone(move || assert_eq!(packets::frame(black_box(&packet)).packet.len(), packet.len()))
         },
     )
 }

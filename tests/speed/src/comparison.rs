@@ -3,6 +3,7 @@
 
 use crate::peer;
 use bench_model::packets;
+use std::collections::BTreeSet;
 
 /// Each is a read and a write.
 const ROUNDS: u32 = 200_000;
@@ -14,38 +15,37 @@ const FIELDS: [(u32, u32, u32); 7] =
 const COUNTS: u32 = 32;
 const MOST_ROOM: u32 = 300;
 
-/// What a function says: its answer, gates and bytes.
-type Said = (u32, usize, usize);
-type Call = fn(&[u8], &mut [u8]) -> Said;
+/// The numbers that a function tells, of which the first is its answer.
+type Call<const N: usize> = fn(&[u8], &mut [u8]) -> [usize; N];
 
-struct Function {
+struct Function<const N: usize> {
     name: &'static str,
-    peer: Call,
-    model: Call,
+    peer: Call<N>,
+    model: Call<N>,
     input: fn(&mut Random) -> Vec<u8>,
-    answers: &'static [u32],
+    answers: &'static [usize],
 }
 
 macro_rules! said {
-    ($function:path) => {
+    ($function:path, $($number:ident),+) => {
         |input, output| {
             let said = $function(input, output);
-            (said.answer, said.gates, said.bytes)
+            [$(said.$number as usize),+]
         }
     };
 }
 
-const READ: Function = Function {
+const READ: Function<4> = Function {
     name: "read_gates",
-    peer: said!(peer::read_gates),
-    model: said!(packets::read_gates),
+    peer: said!(peer::read_gates, answer, place, gates, bytes),
+    model: said!(packets::read_gates, answer, place, gates, bytes),
     input: packet,
     answers: &[0, 1, 2, 3, 4, 5],
 };
-const WRITE: Function = Function {
+const WRITE: Function<3> = Function {
     name: "write_gates",
-    peer: said!(peer::write_gates),
-    model: said!(packets::write_gates),
+    peer: said!(peer::write_gates, answer, gates, bytes),
+    model: said!(packets::write_gates, answer, gates, bytes),
     input: list,
     answers: &[0, 1, 3, 4],
 };
@@ -83,10 +83,10 @@ fn value(random: &mut Random, (_, least, greatest): (u32, u32, u32)) -> u32 {
     }
 }
 
-/// The fields of so many gates. In every third list one may be not allowed, or too large.
+/// The fields of so many gates. In every third list one may be not allowed, or too large, and in every ninth more than one.
 fn gates(random: &mut Random, count: u32) -> Vec<[u32; 7]> {
     let mut gates: Vec<[u32; 7]> = (0..count).map(|_| FIELDS.map(|field| value(random, field))).collect();
-    if count > 0 && random.one_in(3) {
+    while count > 0 && random.one_in(3) {
         let (gate, field) = (random.below(count) as usize, random.below(7) as usize);
         let (_, least, greatest) = FIELDS[field];
         gates[gate][field] = [least.wrapping_sub(1), greatest + 1, random.below(1 << 16)][random.below(3) as usize];
@@ -148,8 +148,8 @@ fn packet(random: &mut Random) -> Vec<u8> {
     packet
 }
 
-/// One call by both: the answer.
-fn compare(function: &Function, input: &[u8], output: &[u8]) -> u32 {
+/// One call by both: what they say.
+fn compare<const N: usize>(function: &Function<N>, input: &[u8], output: &[u8]) -> [usize; N] {
     let (mut by_peer, mut by_model) = (output.to_vec(), output.to_vec());
     let peer = (function.peer)(input, &mut by_peer);
     let model = (function.model)(input, &mut by_model);
@@ -159,24 +159,32 @@ fn compare(function: &Function, input: &[u8], output: &[u8]) -> u32 {
          {by_model:02X?}",
         function.name
     );
-    model.0
+    model
 }
 
-/// Random calls of one function: each of its answers must be met.
-fn compare_often(function: &Function) {
+/// Random calls of one function, each of whose answers must be met: all that was said.
+fn compare_often<const N: usize>(function: &Function<N>) -> BTreeSet<[usize; N]> {
     let mut random = Random(SEED);
     let mut met = [0; 6];
+    let mut all = BTreeSet::new();
     for _ in 0..ROUNDS {
         let input = (function.input)(&mut random);
         let room = random.below(MOST_ROOM);
         let output = random.bytes(room);
-        met[compare(function, &input, &output) as usize] += 1;
+        let said = compare(function, &input, &output);
+        met[said[0]] += 1;
+        all.insert(said);
     }
-    let wanted = function.answers.iter().all(|&answer| met[answer as usize] > ROUNDS / 100);
+    let wanted = function.answers.iter().all(|&answer| met[answer] > ROUNDS / 100);
     assert!(wanted, "an answer of {} is hardly met: {met:?}", function.name);
+    all
 }
 
 pub fn peer_with_model() {
-    compare_often(&READ);
+    let read = compare_often(&READ);
+    for (answer, place) in packets::places() {
+        let refusal = [answer as usize, place as usize, 0, 0];
+        assert!(read.contains(&refusal), "no read was answered {answer} with place {place}");
+    }
     compare_often(&WRITE);
 }

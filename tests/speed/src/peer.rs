@@ -1,9 +1,9 @@
-//! A tuned peer of the gate reader and writer: what is written by hand where speed alone counts. It is made from document 01 and
-//! shares nothing with the archive or the model; `comparison` holds it to the model's answers and bytes.
+//! A tuned peer of the gate reader and writer: what is written by hand where speed alone counts. It is made from documents 01 and 02
+//! and shares nothing with the archive or the model; `comparison` holds it to the model's answers and bytes.
 //!
 //! A gate's 35 bits lie in one window of 64 bits, and a field is one shift and one mask of it. Each gate is judged and turned in one
 //! pass, into bytes of the function's own; where all are allowed these are copied to the output. That takes fewer instructions than
-//! a pass that judges and another that turns.
+//! a pass that judges and another that turns. The place of a wrong field is looked for where a read is refused.
 
 const GATE: usize = 9;
 const GATE_BITS: usize = 35;
@@ -27,18 +27,29 @@ const BAD_LENGTH: u32 = 3;
 const BAD_FIELD: u32 = 4;
 const BAD_PADDING: u32 = 5;
 
+/// The first bits of the header's fields.
+const TYPE: u32 = 0;
+const LENGTH: u32 = 4;
+const COUNT: u32 = 11;
+/// What is missing is in no field.
+const MISSING: Refusal = (SHORT, 0);
+
+/// The answer of a refused read, and its place.
+type Refusal = (u32, u32);
+
 #[derive(Clone, Copy, PartialEq, Eq, Debug, Default)]
-pub struct Answer {
+pub struct Read {
     pub answer: u32,
+    pub place: u32,
     pub gates: usize,
     pub bytes: usize,
 }
 
-fn answered(done: Result<(usize, usize), u32>) -> Answer {
-    match done {
-        Ok((gates, bytes)) => Answer { answer: 0, gates, bytes },
-        Err(answer) => Answer { answer, ..Answer::default() },
-    }
+#[derive(Clone, Copy, PartialEq, Eq, Debug, Default)]
+pub struct Written {
+    pub answer: u32,
+    pub gates: usize,
+    pub bytes: usize,
 }
 
 fn packet_length(gates: usize) -> usize {
@@ -57,21 +68,24 @@ fn first_word(bytes: &[u8]) -> u64 {
 
 /// Not inlined, so that a call costs what it does to call the archive or the model.
 #[inline(never)]
-pub fn read_gates(input: &[u8], output: &mut [u8]) -> Answer {
-    answered(read(input, output))
+pub fn read_gates(input: &[u8], output: &mut [u8]) -> Read {
+    match read(input, output) {
+        Ok((gates, bytes)) => Read { answer: 0, place: 0, gates, bytes },
+        Err((answer, place)) => Read { answer, place, ..Read::default() },
+    }
 }
 
-fn read(input: &[u8], output: &mut [u8]) -> Result<(usize, usize), u32> {
-    let header = usize::from(u16::from_be_bytes(*input.first_chunk().ok_or(SHORT)?));
+fn read(input: &[u8], output: &mut [u8]) -> Result<(usize, usize), Refusal> {
+    let header = usize::from(u16::from_be_bytes(*input.first_chunk().ok_or(MISSING)?));
     let (length, count) = (header >> 5 & 0x7F, header & 0x1F);
     if header >> 12 != GATE_TYPE {
-        return Err(BAD_TYPE);
+        return Err((BAD_TYPE, TYPE));
     }
-    // A length below 2 needs no test of its own: its bytes are there, and no count has it.
-    let input = input.get(..length).ok_or(SHORT)?;
+    // A length below 2 needs no test of its own before it is refused: its bytes are there, and no count has it.
+    let input = input.get(..length).ok_or(MISSING)?;
     // Too many gates have no length of seven bits; the test of the count shows the compiler that `gates` has room for them.
     if count > MOST_GATES || length != packet_length(count) {
-        return Err(BAD_LENGTH);
+        return Err((BAD_LENGTH, if length < 2 { LENGTH } else { COUNT }));
     }
     // Nothing to judge or to fill, and no copies to make.
     if count == 0 {
@@ -82,21 +96,26 @@ fn read(input: &[u8], output: &mut [u8]) -> Result<(usize, usize), u32> {
     let mut gates = [[0; GATE]; MOST_GATES];
     let gates = &mut gates[..count];
     if !unpacked(&packet, gates) {
-        return Err(BAD_FIELD);
+        return Err((BAD_FIELD, wrong_field(&packet)));
     }
-    let padding = length * 8 - (HEADER_BITS + GATE_BITS * count);
-    if packet[length - 1] & ((1 << padding) - 1) != 0 {
-        return Err(BAD_PADDING);
+    let padding = packet[length - 1] & ((1 << (length * 8 - (HEADER_BITS + GATE_BITS * count))) - 1);
+    if padding != 0 {
+        return Err((BAD_PADDING, (length * 8 - 8) as u32 + padding.leading_zeros()));
     }
-    output.get_mut(..count * GATE).ok_or(SHORT)?.copy_from_slice(gates.as_flattened());
+    output.get_mut(..count * GATE).ok_or(MISSING)?.copy_from_slice(gates.as_flattened());
     Ok((count, length))
+}
+
+/// The gate from this bit on, in the top bits of a word.
+fn gate_at(packet: &[u8; PACKET], bit: usize) -> u64 {
+    first_word(&packet[window(bit)]) << (bit % 8)
 }
 
 /// The gates of a sub-packet, up to the first that is not allowed: whether there is none.
 fn unpacked(packet: &[u8; PACKET], gates: &mut [[u8; GATE]]) -> bool {
     let mut bit = HEADER_BITS;
     for gate in gates {
-        let bits = first_word(&packet[window(bit)]) << (bit % 8);
+        let bits = gate_at(packet, bit);
         let (distance, number) = ((bits >> 49) as u32, (bits >> 39) as u32 & 0x3FF);
         let (suffix, manning) = ((bits >> 36) as u8 & 7, (bits >> 35) as u8 & 1);
         let (class, whistling) = ((bits >> 32) as u8 & 7, (bits >> 31) as u8 & 1);
@@ -111,9 +130,32 @@ fn unpacked(packet: &[u8; PACKET], gates: &mut [[u8; GATE]]) -> bool {
     true
 }
 
+/// The first bit of the first field that is not allowed, of gates that are not all allowed. They are judged once more, so that a read
+/// that is accepted does nothing for it.
+#[cold]
+fn wrong_field(packet: &[u8; PACKET]) -> u32 {
+    let mut bit = HEADER_BITS;
+    loop {
+        let bits = gate_at(packet, bit);
+        if matches!(bits >> 39 & 0x3FF, 0 | 0x3FF) {
+            break bit as u32 + 15;
+        } else if bits >> 36 & 7 == 7 {
+            break bit as u32 + 25;
+        } else if bits >> 32 & 7 == 7 {
+            break bit as u32 + 29;
+        } else if bits >> 29 & 3 == 3 {
+            break bit as u32 + 33;
+        }
+        bit += GATE_BITS;
+    }
+}
+
 #[inline(never)]
-pub fn write_gates(input: &[u8], output: &mut [u8]) -> Answer {
-    answered(write(input, output))
+pub fn write_gates(input: &[u8], output: &mut [u8]) -> Written {
+    match write(input, output) {
+        Ok((gates, bytes)) => Written { answer: 0, gates, bytes },
+        Err(answer) => Written { answer, ..Written::default() },
+    }
 }
 
 fn write(input: &[u8], output: &mut [u8]) -> Result<(usize, usize), u32> {
