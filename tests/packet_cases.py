@@ -1,5 +1,5 @@
 #!/usr/bin/env python3
-"""The cases that crates/packet_runs runs, and what it must print: sub-packets as document 01 describes them, worked out with whole numbers.
+"""The cases that crates/packet_runs runs, and what it must print: sub-packets as documents 01 and 02 describe them, worked out with whole numbers.
 
   tests/packet_cases.py stdin  > crates/packet_runs/stdin
   tests/packet_cases.py stdout > crates/packet_runs/stdout
@@ -163,7 +163,7 @@ def spoiled(gates, *wrong):
 def place_cases():
     """sub-packets that tell where they broke"""
     r = random.Random(3)
-    # framing and reading: every type with lengths below 2, with the bytes of a longer one and without
+    # framing and reading: every type with lengths below 2, read with a byte behind them
     for kind in range(16):
         for length in (0, 1):
             yield 1, 0, bytes([kind << 4, length << 5 | 31])
