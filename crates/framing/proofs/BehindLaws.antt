@@ -10,6 +10,7 @@ use lib.ListN.{length, take, length-append}
 use lib.Seq.{length-take-le, take-take, take-append-seam}
 use Rattle.numbers.proofs.FieldLaws.{field-front}
 use Rattle.framing.specs.Refusals.{tooShort, wrongType, lengthTooSmall, cutOff, refuse, orElse, unlessRefused}
+use Rattle.framing.specs.declared.refusals.Refusal.{Refusal}
 use Rattle.framing.specs.Framing.{typeOf, lengthOf, headRefusal, lastType, frameRefusal, frameOf}
 
 -- the first n bytes, among them the whole first sub-packet
@@ -36,7 +37,7 @@ module _ (s : List ℕ) (n : ℕ) (two : 2 ≤ n) (whole : lengthOf s ≤ n) (th
 
   frame-front : frameOf (take n s) ≡ frameOf s
   unfolding unlessRefused
-  frame-front = ap₂ (λ (r k : ℕ). take (unlessRefused r k 0) (take n s)) (head-front 0 lastType) length-front ∙ shorter (frameRefusal s)
+  frame-front = ap₂ (λ (r : Refusal) (k : ℕ). take (unlessRefused (r .number) k 0) (take n s)) (head-front 0 lastType) length-front ∙ shorter (frameRefusal s .number)
     where
       shorter : (r : ℕ) → take (unlessRefused r (lengthOf s) 0) (take n s) ≡ take (unlessRefused r (lengthOf s) 0) s
       shorter zero = take-take (lengthOf s) n s whole

@@ -1,3 +1,4 @@
 pub mod RefusalLaws
 pub mod FramingLaws
 pub mod BehindLaws
+pub mod PlaceLaws

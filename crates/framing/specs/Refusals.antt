@@ -1,52 +1,75 @@
--- The grounds on which a sub-packet is refused, each with its number (document 01, "Sub-packets"), and how a chain of grounds gives one
--- answer. 0 is no refusal.
-use Prim.Native.Nat.{ℕ, zero, suc}
+-- The grounds on which a sub-packet is refused, and how a chain of grounds gives one refusal. A ground has its number (document 01,
+-- "Sub-packets") and its place (document 02, T-03): the first bit of the field at fault, counted from the start of the sub-packet, and 0 where no
+-- field is at fault. Number 0 is no refusal.
+use Prim.Native.Nat.{ℕ, zero, suc, _+_}
 use mathlib.Core.Bool.{Bool, true, false}
+use Rattle.framing.specs.declared.refusals.Refusal.{Refusal}
 
-abbrev pub tooShort : ℕ  -- fewer than 2 bytes
-tooShort = 1
+abbrev pub none : Refusal  -- no ground holds
+none = record { number = 0; place = 0 }
 
-abbrev pub wrongType : ℕ  -- a type that does not exist, or not the one asked for
-wrongType = 2
+abbrev pub typeAt : ℕ  -- where type, length and count start
+typeAt = 0
 
-abbrev pub lengthTooSmall : ℕ  -- a length below 2
-lengthTooSmall = 3
+abbrev pub lengthAt : ℕ
+lengthAt = 4
 
-abbrev pub cutOff : ℕ  -- fewer bytes than the length says
-cutOff = 1
+abbrev pub countAt : ℕ
+countAt = 11
 
-abbrev pub lengthNotForCount : ℕ  -- a length that is not the one for the count of gates
-lengthNotForCount = 3
+abbrev pub tooShort : Refusal  -- fewer than 2 bytes
+tooShort = record { number = 1; place = 0 }
 
-abbrev pub notAllowed : ℕ  -- a gate's field whose value is not allowed
-notAllowed = 4
+abbrev pub wrongType : Refusal  -- a type that does not exist, or not the one asked for
+wrongType = record { number = 2; place = typeAt }
 
-abbrev pub paddingSet : ℕ  -- padding that is not zero
-paddingSet = 5
+abbrev pub lengthTooSmall : Refusal  -- a length below 2
+lengthTooSmall = record { number = 3; place = lengthAt }
 
-abbrev pub notWholeGates : ℕ  -- gates outside a sub-packet that are not 9 bytes each
-notWholeGates = 3
+abbrev pub cutOff : Refusal  -- fewer bytes than the length says
+cutOff = record { number = 1; place = 0 }
 
-abbrev pub tooManyGates : ℕ  -- more gates than a sub-packet may have
-tooManyGates = 3
+abbrev pub lengthNotForCount : Refusal  -- a length that is not the one for the count of gates
+lengthNotForCount = record { number = 3; place = countAt }
 
-abbrev pub tooWide : ℕ  -- a value too large for its field's width
-tooWide = 4
+abbrev pub notAllowed : ℕ → Refusal  -- a field whose value is not allowed, which starts at bit p
+notAllowed p = record { number = 4; place = p }
 
-abbrev pub noRoom : ℕ  -- an output too small
-noRoom = 1
+abbrev pub paddingSet : ℕ → Refusal  -- padding that is not zero, of which bit p is the first that is set
+paddingSet p = record { number = 5; place = p }
 
--- the ground n where the test holds
-unfoldable pub refuse : Bool → ℕ → ℕ
-refuse true n = n
-refuse false n = 0
+abbrev pub noRoom : Refusal  -- an output too small
+noRoom = record { number = 1; place = 0 }
 
--- the first refusal, or else the next
-unfoldable pub orElse : ℕ → ℕ → ℕ
-orElse zero n = n
-orElse (suc m) n = suc m
+-- what is written has no place yet, so a writer's own grounds have none
+
+abbrev pub notWholeGates : Refusal  -- gates outside a sub-packet that are not 9 bytes each
+notWholeGates = record { number = 3; place = 0 }
+
+abbrev pub tooManyGates : Refusal  -- more gates than a sub-packet may have
+tooManyGates = record { number = 3; place = 0 }
+
+abbrev pub tooWide : Refusal  -- a value too large for its field's width
+tooWide = record { number = 4; place = 0 }
 
 -- a where there is no refusal, b where there is one
 unfoldable pub unlessRefused : {A : Type 0} → ℕ → A → A → A
 unlessRefused zero a b = a
 unlessRefused (suc m) a b = b
+
+-- the ground where the test holds
+unfoldable pub refuse : Bool → Refusal → Refusal
+refuse true ground = ground
+refuse false ground = none
+
+-- the first refusal, or else the next
+unfoldable pub orElse : Refusal → Refusal → Refusal
+orElse first next = unlessRefused (first .number) next first
+
+-- the refusal of a part of a sub-packet that starts at bit p, whose place was counted from there
+abbrev pub movedBy : ℕ → Refusal → Refusal
+movedBy p r = record { number = r .number; place = p + r .place }
+
+-- the refusal with its place untold
+abbrev pub untold : Refusal → Refusal
+untold r = record { number = r .number; place = 0 }

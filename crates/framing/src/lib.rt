@@ -2,6 +2,7 @@
 // header is read as one number of 16 bits: its 4 highest digits are the type, the next 7 the length.
 pub mod refusals;
 
+use refusals::Refusal;
 ghost use mathlib.Core.Path.{_≡_};
 ghost use Prim.Native.Nat.{_<_};
 ghost use Rattle.framing.specs.Framing.{typeOf, lengthOf, headRefusal, frameRefusal, frameOf};
@@ -23,7 +24,7 @@ pub fn length_of(s: &[u8]) -> usize
 }
 
 // The refusal by the header, where the types from `low` to `high` are taken.
-pub fn head_refusal(s: &[u8], low: u32, high: u32) -> u32
+pub fn head_refusal(s: &[u8], low: u32, high: u32) -> Refusal
     ensures { λ r. ⌜ r ≡ headRefusal (now (s .entry)) low high ⌝ }
 {
     if s.len() < 2 {
@@ -46,8 +47,8 @@ pub fn head_refusal(s: &[u8], low: u32, high: u32) -> u32
     refusals::NONE
 }
 
-// The refusal of the first sub-packet of `s`; 0 for none.
-pub fn frame_refusal(s: &[u8]) -> u32
+// The refusal of the first sub-packet of `s`.
+pub fn frame_refusal(s: &[u8]) -> Refusal
     ensures { λ r. ⌜ r ≡ frameRefusal (now (s .entry)) ⌝ }
 {
     head_refusal(s, 0, LAST_TYPE)
@@ -57,7 +58,8 @@ pub fn frame_refusal(s: &[u8]) -> u32
 pub fn frame(s: &[u8]) -> &[u8]
     ensures { λ r. ⌜ (now r ≡ frameOf (now (s .entry))) × (r .ptr ≡ s .entry .ptr) ⌝ }
 {
-    if frame_refusal(s) == refusals::NONE {
+    let refusal = frame_refusal(s);
+    if refusal.number == refusals::ACCEPTED {
         let n = length_of(s);
         &s[..n]
     } else {

@@ -1,35 +1,86 @@
-// The grounds of refusal, each with its number; 0 is no refusal.
-pub const NONE: u32 = 0;
+// The grounds of refusal, each with its number and its place: the first bit of the field at fault, counted from the start of the sub-packet, and 0
+// where no field is at fault.
+ghost use mathlib.Core.Path.{_≡_};
+ghost use Rattle.framing.specs.Refusals.{notAllowed as fieldNotAllowed, paddingSet as bitSet};
+
+// A ground that holds, or none.
+pub struct Refusal {
+    pub number: u32,
+    pub place: u32,
+}
+
+// The number of no refusal.
+pub const ACCEPTED: u32 = 0;
+
+pub const NONE: Refusal = Refusal {
+    number: 0,
+    place: 0,
+};
 
 // fewer than 2 bytes
-pub const TOO_SHORT: u32 = 1;
+pub const TOO_SHORT: Refusal = Refusal {
+    number: 1,
+    place: 0,
+};
 
 // a type that does not exist, or not the one asked for
-pub const WRONG_TYPE: u32 = 2;
+pub const WRONG_TYPE: Refusal = Refusal {
+    number: 2,
+    place: 0,
+};
 
 // a length below 2
-pub const LENGTH_TOO_SMALL: u32 = 3;
+pub const LENGTH_TOO_SMALL: Refusal = Refusal {
+    number: 3,
+    place: 4,
+};
 
 // fewer bytes than the length says
-pub const CUT_OFF: u32 = 1;
+pub const CUT_OFF: Refusal = Refusal {
+    number: 1,
+    place: 0,
+};
 
 // a length that is not the one for the count of gates
-pub const LENGTH_NOT_FOR_COUNT: u32 = 3;
-
-// a gate's field whose value is not allowed
-pub const NOT_ALLOWED: u32 = 4;
-
-// padding that is not zero
-pub const PADDING_SET: u32 = 5;
-
-// gates outside a sub-packet that are not 9 bytes each
-pub const NOT_WHOLE_GATES: u32 = 3;
-
-// more gates than a sub-packet may have
-pub const TOO_MANY_GATES: u32 = 3;
-
-// a value too large for its field's width
-pub const TOO_WIDE: u32 = 4;
+pub const LENGTH_NOT_FOR_COUNT: Refusal = Refusal {
+    number: 3,
+    place: 11,
+};
 
 // an output too small
-pub const NO_ROOM: u32 = 1;
+pub const NO_ROOM: Refusal = Refusal {
+    number: 1,
+    place: 0,
+};
+
+// gates outside a sub-packet that are not 9 bytes each
+pub const NOT_WHOLE_GATES: Refusal = Refusal {
+    number: 3,
+    place: 0,
+};
+
+// more gates than a sub-packet may have
+pub const TOO_MANY_GATES: Refusal = Refusal {
+    number: 3,
+    place: 0,
+};
+
+// a value too large for its field's width
+pub const TOO_WIDE: Refusal = Refusal {
+    number: 4,
+    place: 0,
+};
+
+// a field whose value is not allowed, which starts at bit `place`
+pub fn not_allowed(place: u32) -> Refusal
+    ensures { λ r. ⌜ r ≡ fieldNotAllowed place ⌝ }
+{
+    Refusal { number: 4, place }
+}
+
+// padding that is not zero, of which bit `place` is the first that is set
+pub fn padding_set(place: u32) -> Refusal
+    ensures { λ r. ⌜ r ≡ bitSet place ⌝ }
+{
+    Refusal { number: 5, place }
+}

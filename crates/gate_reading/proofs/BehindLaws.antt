@@ -12,13 +12,15 @@ use Rattle.numbers.specs.Fields.{field}
 use Rattle.numbers.specs.Pieces.{times, unpack}
 use Rattle.numbers.proofs.FieldLaws.{field-front}
 use Rattle.numbers.proofs.PieceLaws.{unpack-front}
+use Rattle.fields.specs.FirstSet.{firstSet}
+use Rattle.fields.proofs.FirstSetLaws.{first-front}
 use Rattle.framing.specs.Refusals.{lengthNotForCount, paddingSet, noRoom, refuse, orElse, unlessRefused}
 use Rattle.framing.specs.Framing.{lengthOf}
-use Rattle.framing.proofs.RefusalLaws.{differ, unless-some}
+use Rattle.framing.proofs.RefusalLaws.{same-number, differ, unless-some}
 use Rattle.framing.proofs.BehindLaws.{length-front, head-front, unread, inside, there}
-use Rattle.gates.specs.Gates.{countOf, gateType, distanceWidth, gateBytes, gateWidths, bitsOf, sizeOf, paddingBits, rulesRefusal, refusedWith, acceptedWith}
+use Rattle.gates.specs.Gates.{countOf, gateType, distanceWidth, gateBytes, gateWidths, bitsOf, sizeOf, paddingBits, rulesRefusal}
 use Rattle.gates.proofs.GateLaws.{bits-gates}
-use Rattle.gate_reading.specs.Reading.{gatesOf, paddingOf, bodyRefusal, readRefusal, readAnswer, readInto}
+use Rattle.gate_reading.specs.Reading.{gatesOf, paddingRefusal, bodyRefusal, readRefusal, readAnswer, readInto, readWith, refusedFor}
 use Rattle.gate_reading.proofs.ReadingLaws.{gated}
 
 -- the first n bytes, among them the whole first sub-packet
@@ -38,10 +40,12 @@ module _ (s : List ℕ) (n : ℕ) (two : 2 ≤ n) (whole : lengthOf s ≤ n) (en
           ap (λ (m : ℕ). unpack (take n s) 16 (times m (gateWidths distance))) count-front
           ∙ unpack-front s 16 (times (countOf s) (gateWidths distance)) n (rw (bits-gates distance (countOf s) wide) (omega arith))
 
-      padding-front : paddingOf distance (take n s) ≡ paddingOf distance s
+      padding-front : paddingRefusal distance (take n s) (countOf (take n s)) ≡ paddingRefusal distance s (countOf s)
       padding-front =
-          ap (λ (m : ℕ). field (take n s) (bitsOf distance m) (paddingBits distance m)) count-front
-          ∙ field-front s (bitsOf distance (countOf s)) (paddingBits distance (countOf s)) n (omega arith)
+          let p : ℕ = bitsOf distance (countOf s) in
+          let w : ℕ = paddingBits distance (countOf s) in
+          ap (paddingRefusal distance (take n s)) count-front
+          ∙ (λ i. refuse (ltb 0 (field-front s p w n (omega arith) i)) (paddingSet (first-front s p w n (omega arith) i)))
 
     body-front : bodyRefusal distance (take n s) ≡ bodyRefusal distance s
     unfolding bodyRefusal
@@ -50,10 +54,10 @@ module _ (s : List ℕ) (n : ℕ) (two : 2 ≤ n) (whole : lengthOf s ≤ n) (en
         of : Dec (lengthOf s ≡ sizeOf distance (countOf s)) → bodyRefusal distance (take n s) ≡ bodyRefusal distance s
         of (yes right) =
             λ i. orElse (refuse (not (eqb (length-same i) (sizeOf distance (count-front i)))) lengthNotForCount)
-            (orElse (rulesRefusal (gates-front right i) (count-front i)) (refuse (ltb 0 (padding-front right i)) paddingSet))
+            (orElse (rulesRefusal distance 16 (gates-front right i) (count-front i)) (padding-front right i))
         of (no wrong) =
-            sym (differ (lengthOf (take n s)) (sizeOf distance (countOf (take n s))) _ _ (λ e. wrong (sym length-same ∙ e ∙ ap (sizeOf distance) count-front)))
-            ∙ differ (lengthOf s) (sizeOf distance (countOf s)) _ _ wrong
+            sym (differ (lengthOf (take n s)) (sizeOf distance (countOf (take n s))) _ (λ e. wrong (sym length-same ∙ e ∙ ap (sizeOf distance) count-front)))
+            ∙ differ (lengthOf s) (sizeOf distance (countOf s)) _ wrong
 
     refusal-front : (room : ℕ) → readRefusal distance (take n s) room ≡ readRefusal distance s room
     unfolding readRefusal
@@ -66,17 +70,17 @@ module _ (s : List ℕ) (n : ℕ) (two : 2 ≤ n) (whole : lengthOf s ≤ n) (en
 
     answer-front : readAnswer (take n s) o ≡ readAnswer s o
     unfolding readAnswer
-    answer-front = λ i. unlessRefused (same-refusal i) (acceptedWith (count-front i) (length-same i)) (refusedWith (same-refusal i))
+    answer-front = λ i. unlessRefused (same-refusal i .number) (readWith (count-front i) (length-same i)) (refusedFor (same-refusal i))
 
     into-front : readInto (take n s) o ≡ readInto s o
     unfolding readInto
-    into-front = of (ℕ-discrete (readRefusal distanceWidth s (length o)) 0)
+    into-front = of (ℕ-discrete (readRefusal distanceWidth s (length o) .number) 0)
       where
-        of : Dec (readRefusal distanceWidth s (length o) ≡ 0) → readInto (take n s) o ≡ readInto s o
+        of : Dec (readRefusal distanceWidth s (length o) .number ≡ 0) → readInto (take n s) o ≡ readInto s o
         of (yes e) =
-            λ i. unlessRefused (same-refusal i)
+            λ i. unlessRefused (same-refusal i .number)
             (gates-front distanceWidth (omega arith) (gated distanceWidth s (length o) e .length-right) i ++ drop (gateBytes * count-front i) o) o
-        of (no ne) = unless-some _ _ _ (λ z. ne (sym same-refusal ∙ z)) ∙ sym (unless-some _ _ _ ne)
+        of (no ne) = unless-some _ _ _ (λ z. ne (sym (same-number same-refusal) ∙ z)) ∙ sym (unless-some _ _ _ ne)
 
 -- ---- the laws
 

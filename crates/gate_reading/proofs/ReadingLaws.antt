@@ -11,18 +11,19 @@ use lib.Seq.{sets, sets-eq, slice, slice-cons, take-at}
 use lib.Pow.{shr-mod, pow-mono}
 use Rattle.numbers.specs.Fields.{field}
 use Rattle.numbers.specs.Pieces.{total, times, unpack}
-use Rattle.framing.specs.Refusals.{noRoom, paddingSet, orElse, unlessRefused}
+use Rattle.framing.specs.Refusals.{none, noRoom, paddingSet, orElse, unlessRefused, movedBy}
+use Rattle.framing.specs.declared.refusals.Refusal.{Refusal}
 use Rattle.framing.specs.Framing.{lengthOf}
-use Rattle.gates.specs.Gates.{countOf, gateType, distanceWidth, gateBytes, gateWidths, gateBits, bitsOf, sizeOf, paddingBits, gateRules, gateRefusal, rulesRefusal, refusedWith, acceptedWith}
-use Rattle.gate_reading.specs.Reading.{gatesOf, paddingOf, bodyRefusal, readRefusal, readAnswer, readInto}
+use Rattle.gates.specs.Gates.{countOf, gateType, distanceWidth, gateBytes, gateWidths, gateBits, bitsOf, sizeOf, paddingBits, gateRules, gateRefusal, rulesRefusal}
+use Rattle.gate_reading.specs.Reading.{gatesOf, paddingOf, bodyRefusal, readRefusal, readAnswer, readInto, readWith, refusedFor}
 use Rattle.gate_reading.specs.Steps.{shapeRefusal, firstGates, endRefusal, digits, spread}
-use Rattle.gates.specs.declared.GatesAnswer.{GatesAnswer}
+use Rattle.gate_reading.specs.declared.GatesRead.{GatesRead}
 use Rattle.numbers.proofs.FieldLaws.{field-add, field-lt}
 use Rattle.numbers.proofs.PieceLaws.{length-unpack, length-times, unpack-append, sets-append}
 use Rattle.numbers.proofs.WithinLaws.{cut, unpack-cut}
-use Rattle.framing.proofs.RefusalLaws.{orElse-first, orElse-then, orElse-go, orElse-assoc, next, ends, not-below, last-not-below, refuse-none, unless-none, unless-some}
+use Rattle.framing.proofs.RefusalLaws.{Clear, clear-refuse, clear-orElse, same-number, orElse-first, orElse-then, orElse-go, orElse-assoc, next, ends, not-below, last-not-below, refuse-none, unless-none, unless-some}
 use Rattle.framing.proofs.FramingLaws.{Headed, headed}
-use Rattle.gates.proofs.GateLaws.{total-gate, length-pieces, rules-none}
+use Rattle.gates.proofs.GateLaws.{total-gate, length-pieces, rules-none, place-in-gate}
 
 -- ---- gates of one number each
 
@@ -47,7 +48,7 @@ module _ (distance : ℕ) (s : List ℕ) (wide : 8 ≤ distance) (narrow : dista
       ∙ (λ i. first i ∷ x / 1048576 % 256 ∷ high i ∷ low i ∷ x / 128 % 8 ∷ x / 64 % 2 ∷ x / 8 % 8 ∷ x / 4 % 2 ∷ last i ∷ [])
 
   -- their bytes are the pieces
-  spread-unpack : (n p : ℕ) → spread (unpack s p (times n (gateBits distance ∷ []))) ≡ unpack s p (times n ws)
+  pub spread-unpack : (n p : ℕ) → spread (unpack s p (times n (gateBits distance ∷ []))) ≡ unpack s p (times n ws)
   unfolding spread unpack times
   spread-unpack zero p = refl
   spread-unpack (suc n) p =
@@ -56,11 +57,16 @@ module _ (distance : ℕ) (s : List ℕ) (wide : 8 ≤ distance) (narrow : dista
       ∙ sym (unpack-append s p ws (times n ws))
 
 -- the rules on the bytes of a gate, whose two bytes of the number are one field
-pub digits-ruled : (x : ℕ) → gateRules (x / 1024 % 1024) (x / 128 % 8) (x / 8 % 8) (x % 4) ≡ gateRefusal (digits x)
+pub digits-ruled : (distance x : ℕ) → gateRules distance (x / 1024 % 1024) (x / 128 % 8) (x / 8 % 8) (x % 4) ≡ gateRefusal distance (digits x)
 unfolding gateRefusal
-digits-ruled x =
+digits-ruled distance x =
     let number : x / 1024 % 1024 ≡ x / 1024 % 1024 / 256 * 256 + x / 1024 % 1024 % 256 = omega arith in
-    ap (λ (n : ℕ). gateRules n (x / 128 % 8) (x / 8 % 8) (x % 4)) number
+    ap (λ (n : ℕ). gateRules distance n (x / 128 % 8) (x / 8 % 8) (x % 4)) number
+
+-- the place of a refused gate lies within it
+pub place-in-digits : (distance : ℕ) (gate : List ℕ) → gateRefusal distance gate .place < gateBits distance
+unfolding gateRefusal
+place-in-digits distance gate = place-in-gate distance _ _ _ _
 
 -- the two bytes of a distance are its high and its low one
 module _ (distance : ℕ) (s : List ℕ) (p : ℕ) (h : 8 ≤ distance) where
@@ -109,9 +115,10 @@ load-more s p b m kept k h =
     ∙ ap (λ (t : ℕ). sets kept k (unpack s p (times t (b ∷ [])))) n
 
 -- the rules on a first gate, and on those behind it
-rules-suc : (x : ℕ) (more : List ℕ) (n : ℕ) → rulesRefusal (spread (x ∷ more)) (suc n) ≡ orElse (gateRefusal (digits x)) (rulesRefusal (spread more) n)
+pub rules-suc : (distance p x : ℕ) (more : List ℕ) (n : ℕ)
+    → rulesRefusal distance p (spread (x ∷ more)) (suc n) ≡ orElse (movedBy p (gateRefusal distance (digits x))) (rulesRefusal distance (p + gateBits distance) (spread more) n)
 unfolding rulesRefusal gateRefusal spread
-rules-suc x more n = refl
+rules-suc distance p x more n = refl
 
 module _ (kept : List ℕ) (i n : ℕ) (h : i < n) (long : n ≤ length kept) where
   abbrev gate : ℕ
@@ -124,17 +131,19 @@ module _ (kept : List ℕ) (i n : ℕ) (h : i < n) (long : n ≤ length kept) wh
   first-gate : slice i n kept ≡ gate ∷ behind
   first-gate = slice-cons i n kept 0 h long ∙ ap (λ (k : ℕ). gate ∷ slice k n kept) (sym (add-one i))
 
-  rules-more : orElse (gateRefusal (digits gate)) (rulesRefusal (spread behind) (n - i - 1)) ≡ rulesRefusal (spread (slice i n kept)) (n - i)
-  rules-more =
-      let e : suc (n - i - 1) ≡ n - i = omega arith in
-      sym (rules-suc gate behind (n - i - 1)) ∙ (λ j. rulesRefusal (spread (sym first-gate j)) (e j))
+  -- the rules on it stop at a gate that is refused, and go on past one that is not
+  module _ (distance p : ℕ) (a : Refusal) (e : a ≡ gateRefusal distance (digits gate)) where
+    rules-more : orElse (movedBy p (gateRefusal distance (digits gate))) (rulesRefusal distance (p + gateBits distance) (spread behind) (n - i - 1))
+        ≡ rulesRefusal distance p (spread (slice i n kept)) (n - i)
+    rules-more =
+        let m : suc (n - i - 1) ≡ n - i = omega arith in
+        sym (rules-suc distance p gate behind (n - i - 1)) ∙ (λ j. rulesRefusal distance p (spread (sym first-gate j)) (m j))
 
-  -- it stops at a gate that is refused, and goes on past one that is not
-  pub rules-stop : (a : ℕ) → a ≡ gateRefusal (digits gate) → (a ≡ 0 → ⊥) → a ≡ rulesRefusal (spread (slice i n kept)) (n - i)
-  rules-stop a e ne = ends _ _ e ne ∙ rules-more
+    pub rules-stop : (a .number ≡ 0 → ⊥) → movedBy p a ≡ rulesRefusal distance p (spread (slice i n kept)) (n - i)
+    rules-stop ne = ends _ _ (ap (movedBy p) e) ne ∙ rules-more
 
-  pub rules-go : (a : ℕ) → a ≡ gateRefusal (digits gate) → a ≡ 0 → rulesRefusal (spread behind) (n - i - 1) ≡ rulesRefusal (spread (slice i n kept)) (n - i)
-  rules-go a e z = sym (orElse-go _ _ (sym e ∙ z)) ∙ rules-more
+    pub rules-go : a .number ≡ 0 → rulesRefusal distance (p + gateBits distance) (spread behind) (n - i - 1) ≡ rulesRefusal distance p (spread (slice i n kept)) (n - i)
+    rules-go z = sym (orElse-go _ _ (sym (same-number e) ∙ z)) ∙ rules-more
 
   -- a gate stored, and then those behind it
   pub fill-more : (o : List ℕ) (k : ℕ) → sets (sets o k (digits gate)) (k + gateBytes) (spread behind) ≡ sets o k (spread (slice i n kept))
@@ -155,30 +164,34 @@ module _ (distance : ℕ) (s : List ℕ) where
       ∙ spread-unpack distance s wide narrow n 16
 
   -- with no gates there is no padding, and no room is needed
-  none-refused : (room : ℕ) → 0 ≡ orElse (rulesRefusal (firstGates distance s 0) 0) (endRefusal distance s 0 room)
+  none-refused : (room : ℕ) → none ≡ orElse (rulesRefusal distance 16 (firstGates distance s 0) 0) (endRefusal distance s 0 room)
   unfolding endRefusal
   none-refused room =
       let e : paddingBits distance 0 ≡ 0 = omega arith in
-      let l : field s (bitsOf distance 0) (paddingBits distance 0) < 1 = subst (λ (w : ℕ). field s (bitsOf distance 0) w < 1) (sym e) (field-lt s (bitsOf distance 0) 0) in
-      next _ _ (rules-none _)
-      (not-below 0 (field s (bitsOf distance 0) (paddingBits distance 0)) paddingSet _ (omega arith) (last-not-below room (gateBytes * 0) noRoom (omega arith)))
+      let l : paddingOf distance s 0 < 1 = subst (λ (w : ℕ). field s (bitsOf distance 0) w < 1) (sym e) (field-lt s (bitsOf distance 0) 0) in
+      next _ _ (same-number (rules-none distance 16 _))
+      (not-below 0 (paddingOf distance s 0) _ _ (omega arith) (last-not-below room (gateBytes * 0) noRoom (omega arith)))
 
   none-stored : (o : List ℕ) → o ≡ unlessRefused 0 (sets o 0 (firstGates distance s 0)) o
   unfolding unlessRefused times unpack
   none-stored o = refl
 
   pub none-taken : (n : ℕ) (o : List ℕ) → n ≡ 0
-      → (0 ≡ orElse (rulesRefusal (firstGates distance s n) n) (endRefusal distance s n (length o)))
+      → (none ≡ orElse (rulesRefusal distance 16 (firstGates distance s n) n) (endRefusal distance s n (length o)))
       × (o ≡ unlessRefused 0 (sets o 0 (firstGates distance s n)) o)
   none-taken n o e = (
-    none-refused (length o) ∙ (λ i. orElse (rulesRefusal (firstGates distance s (sym e i)) (sym e i)) (endRefusal distance s (sym e i) (length o))),
+    none-refused (length o) ∙ (λ i. orElse (rulesRefusal distance 16 (firstGates distance s (sym e i)) (sym e i)) (endRefusal distance s (sym e i) (length o))),
     none-stored o ∙ (λ i. unlessRefused 0 (sets o 0 (firstGates distance s (sym e i))) o),
   )
 
   -- where nothing refuses behind the gates, there is room for them
-  pub end-room : (n room : ℕ) → endRefusal distance s n room ≡ 0 → gateBytes * n ≤ room
+  pub end-room : (n room : ℕ) → endRefusal distance s n room .number ≡ 0 → gateBytes * n ≤ room
   unfolding endRefusal
-  end-room n room e = ltb-false _ _ (refuse-none _ _ (orElse-then _ _ e))
+  end-room n room e = ltb-false _ _ (refuse-none _ _ _ (orElse-then _ _ e))
+
+  pub end-clear : (n room : ℕ) → Clear (endRefusal distance s n room)
+  unfolding endRefusal
+  end-clear n room = clear-orElse _ _ (clear-refuse _ _ _)
 
 -- ---- the answer and the output
 
@@ -186,23 +199,23 @@ module _ (distance : ℕ) (s : List ℕ) where
 pub record Gated (distance : ℕ) (s : List ℕ) (room : ℕ) : Type 0 where
   pub head : Headed s gateType gateType
   pub length-right : lengthOf s ≡ sizeOf distance (countOf s)
-  pub rules : rulesRefusal (gatesOf distance s) (countOf s) ≡ 0
-  pub padding : paddingOf distance s ≡ 0
+  pub rules : rulesRefusal distance 16 (gatesOf distance s) (countOf s) .number ≡ 0
+  pub padding : paddingOf distance s (countOf s) ≡ 0
   pub fits : gateBytes * countOf s ≤ room
 
-pub gated : (distance : ℕ) (s : List ℕ) (room : ℕ) → readRefusal distance s room ≡ 0 → Gated distance s room
+pub gated : (distance : ℕ) (s : List ℕ) (room : ℕ) → readRefusal distance s room .number ≡ 0 → Gated distance s room
 unfolding readRefusal bodyRefusal
 gated distance s room e =
     let e₁ = orElse-then _ _ e in
     let body = orElse-first _ _ e₁ in
     let e₂ = orElse-then _ _ body in
-    let p : paddingOf distance s ≤ 0 = ltb-false _ _ (refuse-none _ _ (orElse-then _ _ e₂)) in
+    let p : paddingOf distance s (countOf s) ≤ 0 = ltb-false _ _ (refuse-none _ _ _ (orElse-then _ _ e₂)) in
     record {
       head = headed s gateType gateType (orElse-first _ _ e);
-      length-right = eqb-true _ _ (not-false _ (refuse-none _ _ (orElse-first _ _ body)));
+      length-right = eqb-true _ _ (not-false _ (refuse-none _ _ _ (orElse-first _ _ body)));
       rules = orElse-first _ _ e₂;
       padding = omega arith;
-      fits = ltb-false _ _ (refuse-none _ _ (orElse-then _ _ e₁));
+      fits = ltb-false _ _ (refuse-none _ _ _ (orElse-then _ _ e₁));
     }
 
 pub length-gates : (distance : ℕ) (s : List ℕ) → length (gatesOf distance s) ≡ gateBytes * countOf s
@@ -212,10 +225,11 @@ length-gates distance s =
 
 -- the rules in the order of the steps
 read-steps : (distance : ℕ) (s : List ℕ) (room : ℕ)
-    → orElse (shapeRefusal distance s) (orElse (rulesRefusal (gatesOf distance s) (countOf s)) (endRefusal distance s (countOf s) room)) ≡ readRefusal distance s room
+    → orElse (shapeRefusal distance s) (orElse (rulesRefusal distance 16 (gatesOf distance s) (countOf s)) (endRefusal distance s (countOf s) room))
+    ≡ readRefusal distance s room
 unfolding shapeRefusal endRefusal readRefusal bodyRefusal
 read-steps distance s room =
-    let rules : ℕ = rulesRefusal (gatesOf distance s) (countOf s) in
+    let rules : Refusal = rulesRefusal distance 16 (gatesOf distance s) (countOf s) in
     orElse-assoc _ _ _ ∙ ap (orElse _) (ap (orElse _) (sym (orElse-assoc rules _ _)) ∙ sym (orElse-assoc _ _ _))
 
 -- the ways that a gate read ends
@@ -223,41 +237,39 @@ module _ (s o : List ℕ) where
   abbrev gates : ℕ → List ℕ
   gates = firstGates distanceWidth s
 
-  module _ (a : ℕ) (e : a ≡ readRefusal distanceWidth s (length o)) where
-    read-refused : (a ≡ 0 → ⊥) → (refusedWith a ≡ readAnswer s o) × (o ≡ readInto s o)
+  module _ (a : Refusal) (e : a ≡ readRefusal distanceWidth s (length o)) where
+    read-refused : (a .number ≡ 0 → ⊥) → (refusedFor a ≡ readAnswer s o) × (o ≡ readInto s o)
     unfolding readAnswer readInto
     read-refused ne =
-        let h : readRefusal distanceWidth s (length o) ≡ 0 → ⊥ = λ z. ne (e ∙ z) in
-        (ap refusedWith e ∙ sym (unless-some _ _ _ h), sym (unless-some _ _ _ h))
+        let h : readRefusal distanceWidth s (length o) .number ≡ 0 → ⊥ = λ z. ne (same-number e ∙ z) in
+        (ap refusedFor e ∙ sym (unless-some _ _ _ h), sym (unless-some _ _ _ h))
 
-  module _ (shape : ℕ) (es : shape ≡ shapeRefusal distanceWidth s) where
-    pub shape-refused : (shape ≡ 0 → ⊥) → (refusedWith shape ≡ readAnswer s o) × (o ≡ readInto s o)
+  module _ (shape : Refusal) (es : shape ≡ shapeRefusal distanceWidth s) where
+    pub shape-refused : (shape .number ≡ 0 → ⊥) → (refusedFor shape ≡ readAnswer s o) × (o ≡ readInto s o)
     shape-refused ne = read-refused shape (ends _ _ es ne ∙ read-steps distanceWidth s (length o)) ne
 
-    module _ (zs : shape ≡ 0) (a n : ℕ) (after : List ℕ) (en : n ≡ countOf s) (ea : a ≡ orElse (rulesRefusal (gates n) n) (endRefusal distanceWidth s n (length o)))
-        (eo : after ≡ unlessRefused a (sets o 0 (gates n)) o) where
+    module _ (zs : shape .number ≡ 0) (a : Refusal) (n : ℕ) (after : List ℕ) (en : n ≡ countOf s)
+        (ea : a ≡ orElse (rulesRefusal distanceWidth 16 (gates n) n) (endRefusal distanceWidth s n (length o)))
+        (eo : after ≡ unlessRefused (a .number) (sets o 0 (gates n)) o) where
       answer-eq : a ≡ readRefusal distanceWidth s (length o)
       unfolding gatesOf
       answer-eq =
-          next _ _ (sym es ∙ zs) (ea ∙ (λ i. orElse (rulesRefusal (gates (en i)) (en i)) (endRefusal distanceWidth s (en i) (length o))))
+          next _ _ (sym (same-number es) ∙ zs) (ea ∙ (λ i. orElse (rulesRefusal distanceWidth 16 (gates (en i)) (en i)) (endRefusal distanceWidth s (en i) (length o))))
           ∙ read-steps distanceWidth s (length o)
 
-      pub gates-refused : (a ≡ 0 → ⊥) → (refusedWith a ≡ readAnswer s o) × (after ≡ readInto s o)
+      pub gates-refused : (a .number ≡ 0 → ⊥) → (refusedFor a ≡ readAnswer s o) × (after ≡ readInto s o)
       gates-refused ne =
           let r = read-refused a answer-eq ne in
           (r .0, eo ∙ unless-some _ _ _ ne ∙ r .1)
 
-      pub read-accepted : a ≡ 0 → (bytes : ℕ) → bytes ≡ lengthOf s
-          → (_≡_ {A = GatesAnswer} (record { answer = a; gates = n; bytes = bytes }) (readAnswer s o)) × (after ≡ readInto s o)
+      pub read-accepted : a .number ≡ 0 → (bytes : ℕ) → bytes ≡ lengthOf s → (readWith n bytes ≡ readAnswer s o) × (after ≡ readInto s o)
       unfolding readAnswer readInto gatesOf
       read-accepted z bytes eb =
-          let h : readRefusal distanceWidth s (length o) ≡ 0 = sym answer-eq ∙ z in
+          let h : readRefusal distanceWidth s (length o) .number ≡ 0 = sym (same-number answer-eq) ∙ z in
           let g = gated distanceWidth s (length o) h in
           let all : List ℕ = gates (countOf s) in
           let long : length all ≡ gateBytes * countOf s = length-gates distanceWidth s in
           let out : after ≡ all ++ drop (gateBytes * countOf s) o =
           eo ∙ unless-none _ _ _ z ∙ ap (λ (m : ℕ). sets o 0 (gates m)) en ∙ sets-eq all o 0 (omega arith)
           ∙ ap (λ (m : ℕ). all ++ drop m o) (zero-add (length all) ∙ long) in
-          let answer : _≡_ {A = GatesAnswer} (record { answer = a; gates = n; bytes = bytes }) (acceptedWith (countOf s) (lengthOf s)) =
-          λ i. record { answer = z i; gates = en i; bytes = eb i } in
-          (answer ∙ sym (unless-none _ _ _ h), out ∙ sym (unless-none _ _ _ h))
+          (ap₂ readWith en eb ∙ sym (unless-none _ _ _ h), out ∙ sym (unless-none _ _ _ h))

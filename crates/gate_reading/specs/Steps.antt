@@ -1,26 +1,25 @@
 -- The steps of a gate read, which Reading.antt says whole: what is judged before the gates are loaded, the gates as one number each, and what is
 -- judged behind them.
-use Prim.Native.Nat.{ℕ, _*_, _/_, _%_}
-use mathlib.Core.{List.List, List.[], List._∷_, List._++_, Bool.not}
-use lib.Dec.{ltb, eqb}
-use Rattle.numbers.specs.{Fields.field, Pieces.times, Pieces.unpack}
-use Rattle.framing.specs.Refusals.{lengthNotForCount, paddingSet, noRoom, refuse, orElse}
-use Rattle.framing.specs.Framing.{lengthOf, headRefusal}
-use Rattle.gates.specs.Gates.{gateType, gateBytes, gateWidths, countOf, bitsOf, sizeOf, paddingBits}
+use Prim.Native.Nat.{ℕ, _/_, _%_}
+use mathlib.Core.List.{List, [], _∷_, _++_}
+use Rattle.numbers.specs.Pieces.{times, unpack}
+use Rattle.framing.specs.Refusals.{orElse}
+use Rattle.framing.specs.Framing.{headRefusal}
+use Rattle.framing.specs.declared.refusals.Refusal.{Refusal}
+use Rattle.gates.specs.Gates.{gateType, gateWidths}
+use Rattle.gate_reading.specs.Reading.{lengthRefusal, paddingRefusal, roomRefusal}
 
 -- the header's rules, and the length that the count asks for
-unfoldable pub shapeRefusal : ℕ → List ℕ → ℕ
-shapeRefusal distance s =
-    orElse (headRefusal s gateType gateType) (refuse (not (eqb (lengthOf s) (sizeOf distance (countOf s)))) lengthNotForCount)
+unfoldable pub shapeRefusal : ℕ → List ℕ → Refusal
+shapeRefusal distance s = orElse (headRefusal s gateType gateType) (lengthRefusal distance s)
 
 -- the first n gates outside: 9 bytes for each
 abbrev pub firstGates : ℕ → List ℕ → ℕ → List ℕ
 firstGates distance s n = unpack s 16 (times n (gateWidths distance))
 
 -- the padding behind n gates, and the room that they take
-unfoldable pub endRefusal : ℕ → List ℕ → ℕ → ℕ → ℕ
-endRefusal distance s n room =
-    orElse (refuse (ltb 0 (field s (bitsOf distance n) (paddingBits distance n))) paddingSet) (refuse (ltb room (gateBytes * n)) noRoom)
+unfoldable pub endRefusal : ℕ → List ℕ → ℕ → ℕ → Refusal
+endRefusal distance s n room = orElse (paddingRefusal distance s n) (roomRefusal n room)
 
 -- the bytes of a gate whose bits are one number: the two of its distance, the two of its number, suffix, manning, class, whistling, whistling type
 abbrev pub digits : ℕ → List ℕ

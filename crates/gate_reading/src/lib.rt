@@ -1,7 +1,8 @@
 // Gate sub-packets read: everything is judged first, and stored afterwards, so that a refusal changes nothing. In between each gate is kept as the
 // one number that its bits are, so that it is loaded once. `distance` is the width of a gate's distance.
+use fields::search;
 use framing::refusals;
-use gates::GatesAnswer;
+use framing::refusals::Refusal;
 ghost use mathlib.Core.Path.{_≡_};
 ghost use mathlib.Core.List.{[], _∷_};
 ghost use Prim.Native.Nat.{_+_, _*_, _≤_};
@@ -10,19 +11,28 @@ ghost use lib.Seq.{sets, slice};
 ghost use Rattle.numbers.specs.Fields.{field};
 ghost use Rattle.numbers.specs.Pieces.{times, unpack};
 ghost use Rattle.framing.specs.Refusals.{orElse, unlessRefused};
-ghost use Rattle.gates.specs.Gates.{gateBytes, gateBits, gateRefusal, rulesRefusal, refusedWith};
-ghost use Rattle.gate_reading.specs.Reading.{readAnswer, readInto};
+ghost use Rattle.gates.specs.Gates.{gateBytes, gateBits, gateRefusal, rulesRefusal};
+ghost use Rattle.gate_reading.specs.Reading.{readAnswer, readInto, refusedFor};
 ghost use Rattle.gate_reading.specs.Steps.{shapeRefusal, firstGates, endRefusal, digits, spread};
+
+// What a gate read answers: 0 with the gates and the bytes of the sub-packet, or a refusal's number and place with zeros.
+#[repr(C)]
+pub struct GatesRead {
+    pub answer: u32,
+    pub place: u32,
+    pub gates: usize,
+    pub bytes: usize,
+}
 
 // The most gates that a count of 5 bits can say.
 const MOST_COUNTED: usize = 31;
 
 // The refusal that a gate sub-packet gets before its gates are looked at.
-fn shape_refusal(s: &[u8], distance: u8) -> u32
+fn shape_refusal(s: &[u8], distance: u8) -> Refusal
     ensures { λ r. ⌜ r ≡ shapeRefusal distance (now (s .entry)) ⌝ }
 {
     let head = framing::head_refusal(s, gates::GATE_TYPE, gates::GATE_TYPE);
-    if head != refusals::NONE {
+    if head.number != refusals::ACCEPTED {
         return head;
     }
     let bits = gates::bits_of(distance, gates::count_of(s) as u32);
@@ -54,27 +64,30 @@ fn load_gates(s: &[u8], distance: u8, n: usize, kept: &mut [u64])
     }
 }
 
-// The refusal that a gate gets.
-fn gate_refusal(gate: u64) -> u32
-    ensures { λ r. ⌜ r ≡ gateRefusal (digits gate) ⌝ }
+// The refusal that a gate gets; its place is counted from the gate's first bit.
+fn gate_refusal(gate: u64, distance: u8) -> Refusal
+    ensures { λ r. ⌜ r ≡ gateRefusal distance (digits gate) ⌝ }
 {
     let number = (gate / gates::NUMBER_WEIGHT % 1024) as u32;
     let suffix = (gate / gates::SUFFIX_WEIGHT % 8) as u32;
     let class = (gate / gates::CLASS_WEIGHT % 8) as u32;
     let whistle = (gate % 4) as u32;
-    gates::gate_rules(number, suffix, class, whistle)
+    gates::gate_rules(distance, number, suffix, class, whistle)
 }
 
-// The first refusal of n gates.
-fn rules_refusal(kept: &[u64], n: usize) -> u32
-    requires { ⌜ (n ≤ 31) × (n ≤ length (now kept)) ⌝ }
-    ensures { λ r. ⌜ r ≡ rulesRefusal (spread (slice 0 n (now (kept .entry)))) n ⌝ }
+// The first refusal of n gates from bit 16 on.
+fn rules_refusal(kept: &[u64], distance: u8, n: usize) -> Refusal
+    requires { ⌜ (distance ≤ 15) × (n ≤ 31) × (n ≤ length (now kept)) ⌝ }
+    ensures { λ r. ⌜ r ≡ rulesRefusal distance 16 (spread (slice 0 n (now (kept .entry)))) n ⌝ }
 {
     let mut i = 0;
     while i < n {
-        let refusal = gate_refusal(kept[i]);
-        if refusal != refusals::NONE {
-            return refusal;
+        let refusal = gate_refusal(kept[i], distance);
+        if refusal.number != refusals::ACCEPTED {
+            return Refusal {
+                number: refusal.number,
+                place: gates::bits_of(distance, i as u32) as u32 + refusal.place,
+            };
         }
         i += 1;
     }
@@ -82,14 +95,14 @@ fn rules_refusal(kept: &[u64], n: usize) -> u32
 }
 
 // The refusal that a gate sub-packet of n gates, read into `room` bytes, gets behind the gates.
-fn end_refusal(s: &[u8], distance: u8, n: usize, room: usize) -> u32
+fn end_refusal(s: &[u8], distance: u8, n: usize, room: usize) -> Refusal
     requires { ⌜ n ≤ 31 ⌝ }
     ensures { λ r. ⌜ r ≡ endRefusal distance (now (s .entry)) n room ⌝ }
 {
     let bits = gates::bits_of(distance, n as u32);
-    let size = (bits + 7) / 8;
-    if 0 < fields::read_field(s, bits, 8 * size - bits) {
-        return refusals::PADDING_SET;
+    let end = 8 * ((bits + 7) / 8);
+    if 0 < fields::read_field(s, bits, end - bits) {
+        return refusals::padding_set(search::first_set(s, bits, end) as u32);
     }
     if room < gates::GATE_BYTES * n {
         return refusals::NO_ROOM;
@@ -128,33 +141,34 @@ fn fill_gates(kept: &[u64], n: usize, out: &mut [u8])
 }
 
 // Reads n gates from bit 16 on into `out`, or answers why not. Where there is none, nothing is left that could refuse.
-fn take_gates(s: &[u8], distance: u8, n: usize, out: &mut [u8]) -> u32
+fn take_gates(s: &[u8], distance: u8, n: usize, out: &mut [u8]) -> Refusal
     requires { ⌜ (8 ≤ distance) × (distance ≤ 15) × (n ≤ 31) ⌝ }
-    ensures { λ r. ⌜ r ≡ orElse (rulesRefusal (firstGates distance (now (s .entry)) n) n) (endRefusal distance (now (s .entry)) n (length (now (out .entry)))) ⌝ }
-    ensures { λ r. ⌜ now (out .exit) ≡ unlessRefused r (sets (now (out .entry)) 0 (firstGates distance (now (s .entry)) n)) (now (out .entry)) ⌝ }
+    ensures { λ r. ⌜ r ≡ orElse (rulesRefusal distance 16 (firstGates distance (now (s .entry)) n) n) (endRefusal distance (now (s .entry)) n (length (now (out .entry)))) ⌝ }
+    ensures { λ r. ⌜ now (out .exit) ≡ unlessRefused (r .number) (sets (now (out .entry)) 0 (firstGates distance (now (s .entry)) n)) (now (out .entry)) ⌝ }
 {
     if n == 0 {
         return refusals::NONE;
     }
     let mut kept = [0u64; MOST_COUNTED];
     load_gates(s, distance, n, &mut kept);
-    let rules = rules_refusal(&kept, n);
-    if rules != refusals::NONE {
+    let rules = rules_refusal(&kept, distance, n);
+    if rules.number != refusals::ACCEPTED {
         return rules;
     }
     let end = end_refusal(s, distance, n, out.len());
-    if end != refusals::NONE {
+    if end.number != refusals::ACCEPTED {
         return end;
     }
     fill_gates(&kept, n, out);
     refusals::NONE
 }
 
-fn refused(answer: u32) -> GatesAnswer
-    ensures { λ r. ⌜ r ≡ refusedWith answer ⌝ }
+fn refused(refusal: Refusal) -> GatesRead
+    ensures { λ r. ⌜ r ≡ refusedFor refusal ⌝ }
 {
-    GatesAnswer {
-        answer,
+    GatesRead {
+        answer: refusal.number,
+        place: refusal.place,
         gates: 0,
         bytes: 0,
     }
@@ -162,21 +176,22 @@ fn refused(answer: u32) -> GatesAnswer
 
 // Reads the gate sub-packet that `s` begins with into `out`, 9 bytes for each gate. What follows the sub-packet is ignored, and what lies
 // behind the gates in `out` stays.
-pub fn read_gates(s: &[u8], out: &mut [u8]) -> GatesAnswer
+pub fn read_gates(s: &[u8], out: &mut [u8]) -> GatesRead
     ensures { λ r. ⌜ r ≡ readAnswer (now (s .entry)) (now (out .entry)) ⌝ }
     ensures { λ _. ⌜ now (out .exit) ≡ readInto (now (s .entry)) (now (out .entry)) ⌝ }
 {
     let shape = shape_refusal(s, gates::DISTANCE_WIDTH);
-    if shape != refusals::NONE {
+    if shape.number != refusals::ACCEPTED {
         return refused(shape);
     }
     let gates = gates::count_of(s);
-    let answer = take_gates(s, gates::DISTANCE_WIDTH, gates, out);
-    if answer != refusals::NONE {
-        return refused(answer);
+    let refusal = take_gates(s, gates::DISTANCE_WIDTH, gates, out);
+    if refusal.number != refusals::ACCEPTED {
+        return refused(refusal);
     }
-    GatesAnswer {
-        answer,
+    GatesRead {
+        answer: refusals::ACCEPTED,
+        place: 0,
         gates,
         bytes: framing::length_of(s),
     }

@@ -11,14 +11,16 @@ use lib.Pow.{pow-pos}
 use lib.Seq.{take-at, take-all}
 use Rattle.numbers.specs.Fields.{field}
 use Rattle.numbers.specs.Pieces.{total, times, unpack}
-use Rattle.framing.specs.Refusals.{refuse, orElse}
+use Rattle.framing.specs.Refusals.{refuse, orElse, unlessRefused, untold}
 use Rattle.framing.specs.Framing.{typeOf, lengthOf, headRefusal}
-use Rattle.gates.specs.Gates.{countOf, gateType, distanceWidth, gateBytes, gateWidths, gateBits, bitsOf, sizeOf, paddingBits, rulesRefusal, acceptedWith}
-use Rattle.gate_reading.specs.Reading.{gatesOf, paddingOf, bodyRefusal, readRefusal, readAnswer, readInto}
-use Rattle.gate_writing.specs.Writing.{mostGates, gatesIn, packetWidths, packetValues, written, widthsRefusal, listRefusal, writeRefusal, writeAnswer, writeInto}
+use Rattle.gates.specs.Gates.{countOf, gateType, distanceWidth, gateBytes, gateWidths, gateBits, sizeOf, paddingBits, rulesRefusal}
+use Rattle.gate_reading.specs.Reading.{gatesOf, paddingOf, bodyRefusal, readRefusal, readWith, readAnswer, readInto}
+use Rattle.gate_reading.specs.declared.GatesRead.{GatesRead}
+use Rattle.gate_writing.specs.Writing.{mostGates, gatesIn, packetWidths, packetValues, written, widthsRefusal, listRefusal, writeRefusal, writtenWith, writeAnswer, writeInto}
+use Rattle.gate_writing.specs.declared.GatesWritten.{GatesWritten}
 use Rattle.numbers.proofs.FieldLaws.{Bytes, field-lt}
 use Rattle.numbers.proofs.PieceLaws.{Fit, none, one, unpack-append, unpack-pack, length-unpack, length-pack, round-trip, pack-past}
-use Rattle.framing.proofs.RefusalLaws.{orElse-first, orElse-then, orElse-go, next, same, not-below, last-not-below, refuse-none, unless-none}
+use Rattle.framing.proofs.RefusalLaws.{same-number, orElse-first, orElse-then, orElse-go, next, same, not-below, last-not-below, refuse-none, unless-none}
 use Rattle.gates.proofs.GateLaws.{length-pieces, bits-gates}
 use Rattle.gate_reading.proofs.ReadingLaws.{Gated, gated, length-gates}
 use Rattle.gate_writing.proofs.WritingLaws.{Listed, listed, total-packet}
@@ -43,7 +45,7 @@ count-gates : (distance : ℕ) (s : List ℕ) → gatesIn (gatesOf distance s) �
 count-gates distance s = omega (arith, length-gates distance s)
 
 -- WRITING WHAT WAS READ gives the sub-packet again
-pub write-read : (distance : ℕ) (s o : List ℕ) (room : ℕ) → 8 ≤ distance → Bytes s → Bytes o → readRefusal distance s room ≡ 0
+pub write-read : (distance : ℕ) (s o : List ℕ) (room : ℕ) → 8 ≤ distance → Bytes s → Bytes o → readRefusal distance s room .number ≡ 0
     → lengthOf s ≤ length o → take (lengthOf s) (written distance (gatesOf distance s) o) ≡ take (lengthOf s) s
 unfolding written
 write-read distance s o room h hs ho e fits =
@@ -59,13 +61,14 @@ pub written-past : (distance : ℕ) (list o : List ℕ) → 8 ≤ distance → B
 unfolding written
 written-past distance list o h ho = pack-past o (sizeOf distance (gatesIn list)) _ _ ho (total-packet distance (gatesIn list) h)
 
-widths-read : (s : List ℕ) (p : ℕ) (ws : List ℕ) → widthsRefusal ws (unpack s p ws) ≡ 0
-unfolding widthsRefusal unpack orElse refuse
+widths-read : (s : List ℕ) (p : ℕ) (ws : List ℕ) → widthsRefusal ws (unpack s p ws) .number ≡ 0
+unfolding widthsRefusal unpack orElse refuse unlessRefused
 widths-read s p [] = refl
 widths-read s p (w ∷ ws) = simp (lt-leb (2 ^ w) (field s p w) (field-lt s p w)) (widths-read s (p + w) ws)
 
--- the gates that a sub-packet has get the same refusal outside as inside
-gates-read : (distance : ℕ) (s : List ℕ) → listRefusal distance (gatesOf distance s) (countOf s) ≡ rulesRefusal (gatesOf distance s) (countOf s)
+-- the gates that a sub-packet has get the same refusal outside as inside, but for its place
+gates-read : (distance : ℕ) (s : List ℕ)
+    → listRefusal distance (gatesOf distance s) (countOf s) ≡ untold (rulesRefusal distance 16 (gatesOf distance s) (countOf s))
 unfolding listRefusal gatesOf
 gates-read distance s = orElse-go _ _ (widths-read s 16 (times (countOf s) (gateWidths distance)))
 
@@ -94,18 +97,20 @@ size-mono distance {m} {n} h = omega (arith, mul-le-mul-left (gateBits distance)
 
 -- and the writer takes what was read, given room
 pub write-accepts : (distance most : ℕ) → Sayable distance most → Full distance most
-    → (s : List ℕ) (room more : ℕ) → readRefusal distance s room ≡ 0 → lengthOf s ≤ more → writeRefusal distance most (gatesOf distance s) more ≡ 0
+    → (s : List ℕ) (room more : ℕ) → readRefusal distance s room .number ≡ 0 → lengthOf s ≤ more
+    → writeRefusal distance most (gatesOf distance s) more .number ≡ 0
 unfolding writeRefusal
 write-accepts d most ok all s room more e fits =
     let g = gated d s room e in
     let list : List ℕ = gatesOf d s in
     let en : gatesIn list ≡ countOf s = count-gates d s in
-    let right : listRefusal d list (gatesIn list) ≡ 0 = ap (listRefusal d list) en ∙ gates-read d s ∙ g .rules in
+    let right : listRefusal d list (gatesIn list) .number ≡ 0 = same-number (ap (listRefusal d list) en ∙ gates-read d s) ∙ g .rules in
     let size : sizeOf d (gatesIn list) ≡ lengthOf s = ap (sizeOf d) en ∙ sym (g .length-right) in
     let few : gatesIn list ≤ most = all (gatesIn list) (omega (arith, field-lt s 11 5)) (subst (λ (n : ℕ). n ≤ 127) (sym size) (omega (arith, field-lt s 4 7))) in
-    sym
+    same-number
+    (sym
     (not-below 0 (length list % gateBytes) _ _ (omega (arith, length-gates d s))
-    (not-below most (gatesIn list) _ _ few (next _ _ right (last-not-below more (sizeOf d (gatesIn list)) _ (subst (λ (n : ℕ). n ≤ more) (sym size) fits)))))
+    (not-below most (gatesIn list) _ _ few (next _ _ right (last-not-below more (sizeOf d (gatesIn list)) _ (subst (λ (n : ℕ). n ≤ more) (sym size) fits))))))
 
 -- ---- reading what was written
 
@@ -114,15 +119,15 @@ fit-append none g = g
 fit-append (one h f) g = one h (fit-append f g)
 
 -- the first bytes of a list that pass the widths fit them
-fit-widths : (ws list : List ℕ) → length ws ≤ length list → widthsRefusal ws list ≡ 0 → Fit ws (take (length ws) list)
+fit-widths : (ws list : List ℕ) → length ws ≤ length list → widthsRefusal ws list .number ≡ 0 → Fit ws (take (length ws) list)
 unfolding widthsRefusal
 fit-widths [] list l e = none
 fit-widths (w ∷ ws) [] l e = absurd (omega arith)
 fit-widths (w ∷ ws) (x ∷ list) l e =
-    one (leb-false _ _ (refuse-none _ _ (orElse-first _ _ e))) (fit-widths ws list (omega arith) (orElse-then _ _ e))
+    one (leb-false _ _ (refuse-none _ _ _ (orElse-first _ _ e))) (fit-widths ws list (omega arith) (orElse-then _ _ e))
 
 -- the gates of a list that is not refused fit their fields
-fit-gates : (distance : ℕ) (list : List ℕ) (n : ℕ) → length list ≡ gateBytes * n → listRefusal distance list n ≡ 0
+fit-gates : (distance : ℕ) (list : List ℕ) (n : ℕ) → length list ≡ gateBytes * n → listRefusal distance list n .number ≡ 0
     → Fit (times n (gateWidths distance)) list
 unfolding listRefusal
 fit-gates distance list n l e =
@@ -157,7 +162,7 @@ pub record Wrote (distance : ℕ) (list s : List ℕ) : Type 0 where
   pub sized : lengthOf s ≡ sizeOf distance (gatesIn list)
   pub counted : countOf s ≡ gatesIn list
   pub gates : gatesOf distance s ≡ list
-  pub padded : paddingOf distance s ≡ 0
+  pub padded : paddingOf distance s (countOf s) ≡ 0
 
 wrote-parts : (d : ℕ) (list s : List ℕ) → 8 ≤ d → length list ≡ gateBytes * gatesIn list
     → unpack s 0 (packetWidths d (gatesIn list)) ≡ packetValues d (gatesIn list) list → Wrote d list s
@@ -176,23 +181,24 @@ wrote-parts d list s h whole e =
       sized = cc;
       counted = en;
       gates = ap (λ (k : ℕ). unpack s 16 (times k (gateWidths d))) en ∙ parts .0;
-      padded = ap (λ (k : ℕ). field s (bitsOf d k) (paddingBits d k)) en ∙ ap (λ (p : ℕ). field s p w) (sym (bits-gates d n h)) ∙ parts .1;
+      padded = ap (paddingOf d s) en ∙ ap (λ (p : ℕ). field s p w) (sym (bits-gates d n h)) ∙ parts .1;
     }
 
 -- READING WHAT WAS WRITTEN gives the list again
 pub wrote : (distance most : ℕ) → Sayable distance most
-    → (list o : List ℕ) → writeRefusal distance most list (length o) ≡ 0 → Wrote distance list (written distance list o)
+    → (list o : List ℕ) → writeRefusal distance most list (length o) .number ≡ 0 → Wrote distance list (written distance list o)
 wrote d most ok list o e =
     let g = listed d most list (length o) e in
     wrote-parts d list (written d list o) (ok .wide) (omega arith) (values-written d most ok list o g)
 
-head-accepted : (s : List ℕ) → 2 ≤ length s → typeOf s ≡ gateType → 2 ≤ lengthOf s → lengthOf s ≤ length s → headRefusal s gateType gateType ≡ 0
+head-accepted : (s : List ℕ) → 2 ≤ length s → typeOf s ≡ gateType → 2 ≤ lengthOf s → lengthOf s ≤ length s → headRefusal s gateType gateType .number ≡ 0
 unfolding headRefusal
 head-accepted s two three long whole =
-    sym
+    same-number
+    (sym
     (not-below (length s) 2 _ _ two
     (not-below (typeOf s) gateType _ _ (omega arith)
-    (not-below gateType (typeOf s) _ _ (omega arith) (not-below (lengthOf s) 2 _ _ long (last-not-below (length s) (lengthOf s) _ whole)))))
+    (not-below gateType (typeOf s) _ _ (omega arith) (not-below (lengthOf s) 2 _ _ long (last-not-below (length s) (lengthOf s) _ whole))))))
 
 length-written : (distance : ℕ) (list o : List ℕ) → length (written distance list o) ≡ length o
 unfolding written
@@ -200,26 +206,29 @@ length-written distance list o = length-pack o 0 _ _
 
 -- and the reader takes whatever the writer wrote, given room
 pub read-accepts : (distance most : ℕ) → Sayable distance most
-    → (list o : List ℕ) (room : ℕ) → writeRefusal distance most list (length o) ≡ 0 → length list ≤ room
-    → readRefusal distance (written distance list o) room ≡ 0
+    → (list o : List ℕ) (room : ℕ) → writeRefusal distance most list (length o) .number ≡ 0 → length list ≤ room
+    → readRefusal distance (written distance list o) room .number ≡ 0
 unfolding readRefusal bodyRefusal
 read-accepts d most ok list o room e fits =
     let s : List ℕ = written d list o in
     let g = listed d most list (length o) e in
     let w = wrote d most ok list o e in
     let long : length s ≡ length o = length-written d list o in
-    let rules : rulesRefusal (gatesOf d s) (countOf s) ≡ 0 =
-    sym (gates-read d s) ∙ ap₂ (listRefusal d) (w .gates) (w .counted) ∙ g .right in
-    sym
-    (next _ _ (head-accepted s (omega arith) (w .typed) (omega arith) (omega arith))
-    (next _ _
+    let rules : rulesRefusal d 16 (gatesOf d s) (countOf s) .number ≡ 0 =
+    same-number (sym (gates-read d s) ∙ ap₂ (listRefusal d) (w .gates) (w .counted)) ∙ g .right in
+    let body : bodyRefusal d s .number ≡ 0 =
+    same-number
     (sym
-    (next _ _ (same _ _ _ (w .sized ∙ ap (sizeOf d) (sym (w .counted)))) (next _ _ rules (last-not-below 0 (paddingOf d s) _ (omega arith)))))
-    (last-not-below room (gateBytes * countOf s) _ (omega arith))))
+    (next _ _ (same-number (same _ _ _ (w .sized ∙ ap (sizeOf d) (sym (w .counted)))))
+    (next _ _ rules (last-not-below 0 (paddingOf d s (countOf s)) _ (omega arith))))) in
+    same-number
+    (sym
+    (next _ _ (head-accepted s (omega arith) (w .typed) (omega arith) (omega arith))
+    (next _ _ body (last-not-below room (gateBytes * countOf s) _ (omega arith)))))
 
 -- so TWO ACCEPTED SUB-PACKETS with the same gates are the same bytes
 pub one-reading : (distance : ℕ) (s t : List ℕ) (room more : ℕ) → 8 ≤ distance → Bytes s → Bytes t
-    → readRefusal distance s room ≡ 0 → readRefusal distance t more ≡ 0 → gatesOf distance s ≡ gatesOf distance t → take (lengthOf s) s ≡ take (lengthOf t) t
+    → readRefusal distance s room .number ≡ 0 → readRefusal distance t more .number ≡ 0 → gatesOf distance s ≡ gatesOf distance t → take (lengthOf s) s ≡ take (lengthOf t) t
 one-reading d s t room more h hs ht es et same =
     let g = gated d s room es in
     let count : countOf s ≡ countOf t = sym (count-gates d s) ∙ ap gatesIn same ∙ count-gates d t in
@@ -231,38 +240,39 @@ one-reading d s t room more h hs ht es et same =
 -- ---- of what the two functions leave
 
 -- the gates that an accepted read leaves at the start of its output
-pub read-list : (s o : List ℕ) → readRefusal distanceWidth s (length o) ≡ 0 → take (gateBytes * countOf s) (readInto s o) ≡ gatesOf distanceWidth s
+pub read-list : (s o : List ℕ) → readRefusal distanceWidth s (length o) .number ≡ 0 → take (gateBytes * countOf s) (readInto s o) ≡ gatesOf distanceWidth s
 unfolding readInto
 read-list s o e =
     ap (take (gateBytes * countOf s)) (unless-none _ _ _ e) ∙ take-at (gatesOf distanceWidth s) _ (gateBytes * countOf s) (length-gates distanceWidth s)
 
 -- THERE AND BACK: those bytes, written, are accepted with the same gates and bytes, and give the sub-packet again
-pub there-and-back : (s o out : List ℕ) → Bytes s → Bytes out → readRefusal distanceWidth s (length o) ≡ 0 → lengthOf s ≤ length out
-    → (writeAnswer (take (gateBytes * countOf s) (readInto s o)) out ≡ readAnswer s o)
+pub there-and-back : (s o out : List ℕ) → Bytes s → Bytes out → readRefusal distanceWidth s (length o) .number ≡ 0 → lengthOf s ≤ length out
+    → (writeAnswer (take (gateBytes * countOf s) (readInto s o)) out ≡ writtenWith (readAnswer s o .gates) (readAnswer s o .bytes))
     × (take (lengthOf s) (writeInto (take (gateBytes * countOf s) (readInto s o)) out) ≡ take (lengthOf s) s)
 unfolding writeAnswer writeInto readAnswer
 there-and-back s o out hs ho e fits =
     let d : ℕ = distanceWidth in
     let list : List ℕ = gatesOf d s in
-    let w : writeRefusal d mostGates list (length out) ≡ 0 = write-accepts d mostGates sayable full s (length o) (length out) e fits in
+    let w : writeRefusal d mostGates list (length out) .number ≡ 0 = write-accepts d mostGates sayable full s (length o) (length out) e fits in
     let n : gatesIn list ≡ countOf s = count-gates d s in
     let size : sizeOf d (gatesIn list) ≡ lengthOf s = ap (sizeOf d) n ∙ sym (gated d s (length o) e .length-right) in
     rw (read-list s o e) (
-      unless-none _ _ _ w ∙ ap₂ acceptedWith n size ∙ sym (unless-none _ _ _ e),
+      unless-none _ _ _ w ∙ ap₂ writtenWith n size ∙ ap (λ (a : GatesRead). writtenWith (a .gates) (a .bytes)) (sym (unless-none _ _ _ e)),
       ap (take (lengthOf s)) (unless-none _ _ _ w) ∙ write-read d s out (length o) (sayable .wide) hs ho e fits,
     )
 
 -- AND BACK AND THERE: a sub-packet that was written, read, is accepted with the same gates and bytes, and gives the list again
-pub back-and-there : (list o out : List ℕ) → writeRefusal distanceWidth mostGates list (length o) ≡ 0 → length list ≤ length out
-    → (readAnswer (writeInto list o) out ≡ writeAnswer list o) × (take (length list) (readInto (writeInto list o) out) ≡ list)
+pub back-and-there : (list o out : List ℕ) → writeRefusal distanceWidth mostGates list (length o) .number ≡ 0 → length list ≤ length out
+    → (readAnswer (writeInto list o) out ≡ readWith (writeAnswer list o .gates) (writeAnswer list o .bytes))
+    × (take (length list) (readInto (writeInto list o) out) ≡ list)
 unfolding writeAnswer writeInto readAnswer
 back-and-there list o out e fits =
     let d : ℕ = distanceWidth in
     let s : List ℕ = written d list o in
     let w = wrote d mostGates sayable list o e in
-    let r : readRefusal d s (length out) ≡ 0 = read-accepts d mostGates sayable list o (length out) e fits in
+    let r : readRefusal d s (length out) .number ≡ 0 = read-accepts d mostGates sayable list o (length out) e fits in
     let long : length list ≡ gateBytes * countOf s = sym (ap length (w .gates)) ∙ length-gates d s in
-    rw (unless-none (writeRefusal d mostGates list (length o)) s o e) (
-      unless-none _ _ _ r ∙ ap₂ acceptedWith (w .counted) (w .sized) ∙ sym (unless-none _ _ _ e),
+    rw (unless-none (writeRefusal d mostGates list (length o) .number) s o e) (
+      unless-none _ _ _ r ∙ ap₂ readWith (w .counted) (w .sized) ∙ ap (λ (a : GatesWritten). readWith (a .gates) (a .bytes)) (sym (unless-none _ _ _ e)),
       ap (λ (n : ℕ). take n (readInto s out)) long ∙ read-list s out r ∙ w .gates,
     )

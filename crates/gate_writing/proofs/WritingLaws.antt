@@ -1,7 +1,7 @@
 -- Laws of gate writing.
 use mathlib.Core.Path.{_≡_, refl, sym, ap, ap₂, _∙_}
 use mathlib.Core.List.{List, [], _∷_, _++_}
-use mathlib.Core.Bool.{Bool, true, false}
+use mathlib.Core.Bool.{Bool}
 use mathlib.Core.Logic.{⊎-elim, _⊎_, inl, inr}
 use Prim.Native.Nat.{ℕ, zero, suc, _+_, _-_, _*_, _%_, _^_, _≤_, _<_}
 use native.Mathlib.Nat.{add-zero, add-assoc, mod-eq-of-lt}
@@ -14,15 +14,15 @@ use lib.Seq.{drop-at, drop-drop, getD-drop}
 use Rattle.numbers.specs.Fields.{put}
 use Rattle.numbers.specs.Pieces.{total, times, pack}
 use Rattle.numbers.specs.Numbers.{putNumber}
-use Rattle.framing.specs.Refusals.{notAllowed, tooWide, refuse, orElse}
-use Rattle.gates.specs.Gates.{gateType, distanceWidth, gateBytes, gateWidths, gateBits, bitsOf, sizeOf, paddingBits, lastNumber, lastSuffix, lastClass, lastWhistle, gateRules, gateRefusal, rulesRefusal, refusedWith, acceptedWith}
-use Rattle.gate_writing.specs.Writing.{mostGates, gatesIn, packetWidths, packetValues, written, widthsRefusal, listRefusal, writeRefusal, writeAnswer, writeInto}
-use Rattle.gates.specs.declared.GatesAnswer.{GatesAnswer}
+use Rattle.framing.specs.Refusals.{none, notAllowed, tooWide, refuse, orElse, unlessRefused, untold}
+use Rattle.framing.specs.declared.refusals.Refusal.{Refusal}
+use Rattle.gates.specs.Gates.{gateType, distanceWidth, gateBytes, gateWidths, gateBits, bitsOf, sizeOf, paddingBits, lastNumber, lastSuffix, lastClass, lastWhistle, gateRules, gateRefusal, rulesRefusal}
+use Rattle.gate_writing.specs.Writing.{mostGates, gatesIn, packetWidths, packetValues, written, widthsRefusal, listRefusal, writeRefusal, writtenWith, notWritten, writeAnswer, writeInto}
 use Rattle.numbers.proofs.FieldLaws.{Bytes, bytes-put}
 use Rattle.numbers.proofs.PieceLaws.{total-append, pack-append, pack-extra, times-suc}
 use Rattle.numbers.proofs.JoinedLaws.{put-cleared, joined, joined-step, pack-joined, pack-first}
-use Rattle.framing.proofs.RefusalLaws.{orElse-first, orElse-then, orElse-go, orElse-stop, orElse-assoc, ends, refuse-none, unless-none, unless-some}
-use Rattle.gates.proofs.GateLaws.{total-gate, length-gate, length-pieces, bits-gates}
+use Rattle.framing.proofs.RefusalLaws.{same-number, orElse-first, orElse-then, orElse-go, orElse-assoc, along, tested, ends, refuse-none, unless-none, unless-some, untold-orElse}
+use Rattle.gates.proofs.GateLaws.{rules-hold, total-gate, length-gate, length-pieces, bits-gates}
 
 -- a whole sub-packet takes whole bytes
 pub total-packet : (distance n : ℕ) → 8 ≤ distance → total (packetWidths distance n) ≡ 8 * sizeOf distance n
@@ -47,64 +47,46 @@ pair-drop list i k =
 
 -- ---- a refusal on one ground
 
--- too wide and not allowed have one number: a refusal that can only be one of the two is 0 or that number
-abbrev Only : ℕ → Type 0
-Only a = (a ≡ 0) ⊎ (a ≡ notAllowed)
-
-only-refuse : (t : Bool) → Only (refuse t notAllowed)
-unfolding refuse
-only-refuse true = inr refl
-only-refuse false = inl refl
-
-only-orElse : (a b : ℕ) → Only a → Only b → Only (orElse a b)
-unfolding orElse
-only-orElse zero b ha hb = hb
-only-orElse (suc a) b ha hb = ha
+-- too wide and not allowed have one number: a refusal without a place that can only be one of the two is none or too wide
+abbrev Only : Refusal → Type 0
+Only a = (a ≡ none) ⊎ (a ≡ tooWide)
 
 -- such refusals may be asked in any order
-only-same : {a b : ℕ} → Only (suc a) → Only (suc b) → suc a ≡ suc b
-only-same (inl z) hb = absurd (omega arith)
-only-same (inr e) (inl z) = absurd (omega arith)
-only-same (inr e) (inr f) = e ∙ sym f
-
-only-swap : (a b c : ℕ) → Only a → Only b → orElse a (orElse b c) ≡ orElse b (orElse a c)
-unfolding orElse
-only-swap zero b c ha hb = refl
-only-swap (suc a) zero c ha hb = refl
-only-swap (suc a) (suc b) c ha hb = only-same ha hb
+only-swap : (a b c : Refusal) → Only a → Only b → orElse a (orElse b c) ≡ orElse b (orElse a c)
+unfolding orElse unlessRefused
+only-swap a b c (inl e) hb = rw e
+only-swap a b c (inr e) (inl f) = rw (e, f)
+only-swap a b c (inr e) (inr f) = rw (e, f)
 
 -- and the last of them is the answer wherever it stands
-only-last : (a b : ℕ) → Only a → b ≡ notAllowed → orElse a b ≡ notAllowed
-only-last a b (inl z) e = orElse-go a b z ∙ e
-only-last a b (inr h) e = sym (orElse-stop a b (λ z. omega arith)) ∙ h
+only-last : (a b : Refusal) → Only a → b ≡ tooWide → orElse a b ≡ tooWide
+unfolding orElse unlessRefused
+only-last a b (inl z) e = rw z e
+only-last a b (inr h) e = rw h
+
+only-refuse : (t : Bool) → Only (refuse t tooWide)
+only-refuse t = tested Only t tooWide (λ e. inr refl) (λ e. inl refl)
 
 only-widths : (ws list : List ℕ) → Only (widthsRefusal ws list)
 unfolding widthsRefusal
 only-widths [] list = inl refl
-only-widths (w ∷ ws) list = only-orElse _ _ (only-refuse (leb (2 ^ w) (getD list 0 0))) (only-widths ws (drop 1 list))
+only-widths (w ∷ ws) list = along Only _ _ (λ ne. only-refuse (leb (2 ^ w) (getD list 0 0))) (λ z. only-widths ws (drop 1 list))
 
-only-rules : (number suffix class whistle : ℕ) → Only (gateRules number suffix class whistle)
-unfolding gateRules
-only-rules number suffix class whistle =
-    only-orElse _ _ (only-refuse (ltb number 1))
-    (only-orElse _ _ (only-refuse (ltb lastNumber number))
-    (only-orElse _ _ (only-refuse (ltb lastSuffix suffix)) (only-orElse _ _ (only-refuse (ltb lastClass class)) (only-refuse (ltb lastWhistle whistle)))))
-
-only-gate : (list : List ℕ) → Only (gateRefusal list)
+only-gate : (distance : ℕ) (list : List ℕ) → Only (untold (gateRefusal distance list))
 unfolding gateRefusal
-only-gate list = only-rules _ _ _ _
+only-gate distance list = rules-hold (λ (r : Refusal). Only (untold r)) distance _ _ _ _ (inl refl) (λ p h. inr refl)
 
 -- ---- the widths
 
-widths-none : (list : List ℕ) → widthsRefusal [] list ≡ 0
+widths-none : (list : List ℕ) → widthsRefusal [] list .number ≡ 0
 unfolding widthsRefusal
 widths-none list = refl
 
 widths-append : (ws bs list : List ℕ) → widthsRefusal (ws ++ bs) list ≡ orElse (widthsRefusal ws list) (widthsRefusal bs (drop (length ws) list))
-unfolding widthsRefusal orElse
+unfolding widthsRefusal orElse unlessRefused
 widths-append [] bs list = refl
 widths-append (w ∷ ws) bs list =
-    let a : ℕ = refuse (leb (2 ^ w) (getD list 0 0)) tooWide in
+    let a : Refusal = refuse (leb (2 ^ w) (getD list 0 0)) tooWide in
     ap (orElse a)
     (widths-append ws bs (drop 1 list)
     ∙ ap (λ (l : List ℕ). orElse (widthsRefusal ws (drop 1 list)) (widthsRefusal bs l)) (drop-drop (length ws) 1 list ∙ ap (λ (k : ℕ). drop k list) (one-add (length ws))))
@@ -112,7 +94,7 @@ widths-append (w ∷ ws) bs list =
 
 -- one byte that is too wide is enough
 widths-wide : (ws list : List ℕ) (k : ℕ) → k < length ws → 2 ^ getD ws k 0 ≤ getD list k 0 → widthsRefusal ws list ≡ tooWide
-unfolding widthsRefusal orElse refuse
+unfolding widthsRefusal orElse refuse unlessRefused
 widths-wide [] list k h l = absurd (omega arith)
 widths-wide (w ∷ ws) list zero h l = rw (le-leb (2 ^ w) (getD list 0 0) l)
 widths-wide (w ∷ ws) list (suc k) h l =
@@ -120,9 +102,9 @@ widths-wide (w ∷ ws) list (suc k) h l =
     (widths-wide ws (drop 1 list) k (omega arith) (rw (getD-drop 1 list k 0, one-add k) l))
 
 -- none is, where each has room
-widths-fit : (w : ℕ) (ws list : List ℕ) (k : ℕ) → getD list k 0 < 2 ^ w → widthsRefusal ws (drop (suc k) list) ≡ 0
-    → widthsRefusal (w ∷ ws) (drop k list) ≡ 0
-unfolding widthsRefusal orElse refuse
+widths-fit : (w : ℕ) (ws list : List ℕ) (k : ℕ) → getD list k 0 < 2 ^ w → widthsRefusal ws (drop (suc k) list) .number ≡ 0
+    → widthsRefusal (w ∷ ws) (drop k list) .number ≡ 0
+unfolding widthsRefusal orElse refuse unlessRefused
 widths-fit w ws list k l e =
     let d : drop 1 (drop k list) ≡ drop (suc k) list = drop-drop 1 k list ∙ ap (λ (n : ℕ). drop n list) (add-one k) in
     rw (first-byte list k, d) (simp (lt-leb (2 ^ w) (getD list k 0) l) e)
@@ -136,35 +118,35 @@ record Allowed (number suffix class whistle : ℕ) : Type 0 where
   class-most : class ≤ lastClass
   whistle-most : whistle ≤ lastWhistle
 
-allowed : (number suffix class whistle : ℕ) → gateRules number suffix class whistle ≡ 0 → Allowed number suffix class whistle
+allowed : (distance number suffix class whistle : ℕ) → gateRules distance number suffix class whistle .number ≡ 0 → Allowed number suffix class whistle
 unfolding gateRules
-allowed number suffix class whistle e =
+allowed distance number suffix class whistle e =
     let e₁ = orElse-then _ _ e in
     let e₂ = orElse-then _ _ e₁ in
     let e₃ = orElse-then _ _ e₂ in
     record {
-      number-most = ltb-false _ _ (refuse-none _ _ (orElse-first _ _ e₁));
-      suffix-most = ltb-false _ _ (refuse-none _ _ (orElse-first _ _ e₂));
-      class-most = ltb-false _ _ (refuse-none _ _ (orElse-first _ _ e₃));
-      whistle-most = ltb-false _ _ (refuse-none _ _ (orElse-then _ _ e₃));
+      number-most = ltb-false _ _ (refuse-none _ _ _ (orElse-first _ _ e₁));
+      suffix-most = ltb-false _ _ (refuse-none _ _ _ (orElse-first _ _ e₂));
+      class-most = ltb-false _ _ (refuse-none _ _ _ (orElse-first _ _ e₃));
+      whistle-most = ltb-false _ _ (refuse-none _ _ _ (orElse-then _ _ e₃));
     }
 
 -- the refusal of the gate at the start of a list
-abbrev refusal : ℕ → List ℕ → ℕ
-refusal distance list = orElse (widthsRefusal (gateWidths distance) list) (gateRefusal list)
+abbrev refusal : ℕ → List ℕ → Refusal
+refusal distance list = orElse (widthsRefusal (gateWidths distance) list) (untold (gateRefusal distance list))
 
 module _ (distance : ℕ) (list : List ℕ) where
   -- one byte that is too wide refuses the gate
   pub gate-wide : (k : ℕ) → k < gateBytes → 2 ^ getD (gateWidths distance) k 0 ≤ getD list k 0 → tooWide ≡ refusal distance list
-  unfolding orElse
+  unfolding orElse unlessRefused
   gate-wide k h l = rw (widths-wide (gateWidths distance) list k (rw length-gate h) l)
 
   -- the rules' limits lie below the widths: past the pieces that have no limit the rules decide
   module _ (hs : Bytes list) (high : getD list 0 0 < 2 ^ (distance - 8)) (manning : getD list 5 0 < 2) (whistling : getD list 7 0 < 2) where
-    widths-ruled : gateRefusal list ≡ 0 → widthsRefusal (gateWidths distance) list ≡ 0
+    widths-ruled : gateRefusal distance list .number ≡ 0 → widthsRefusal (gateWidths distance) list .number ≡ 0
     unfolding gateRefusal gateWidths
     widths-ruled e =
-        let a = allowed _ _ _ _ e in
+        let a = allowed _ _ _ _ _ e in
         widths-fit _ _ list 0 high
         (widths-fit _ _ list 1 (hs 1)
         (widths-fit _ _ list 2 (omega arith)
@@ -173,35 +155,45 @@ module _ (distance : ℕ) (list : List ℕ) where
         (widths-fit _ _ list 5 manning
         (widths-fit _ _ list 6 (omega arith) (widths-fit _ _ list 7 whistling (widths-fit _ _ list 8 (omega arith) (widths-none (drop 9 list))))))))))
 
-    pub gate-ruled : gateRefusal list ≡ refusal distance list
+    pub gate-ruled : untold (gateRefusal distance list) ≡ refusal distance list
     gate-ruled =
         ⊎-elim
-        (λ e. sym (orElse-go _ _ (widths-ruled e)))
+        (λ e. sym (orElse-go _ _ (widths-ruled (same-number e))))
         (λ e. e ∙ sym (only-last _ _ (only-widths (gateWidths distance) list) e))
-        (only-gate list)
+        (only-gate distance list)
 
 -- ---- gate by gate
 
+-- rules whose place is untold are the same wherever the gates stand
+rules-untold : (distance p q : ℕ) (list : List ℕ) (n : ℕ) → untold (rulesRefusal distance p list n) ≡ untold (rulesRefusal distance q list n)
+unfolding rulesRefusal
+rules-untold distance p q list zero = refl
+rules-untold distance p q list (suc n) =
+    untold-orElse _ _
+    ∙ ap (orElse (untold (gateRefusal distance list))) (rules-untold distance (p + gateBits distance) (q + gateBits distance) (drop gateBytes list) n)
+    ∙ sym (untold-orElse _ _)
+
 module _ (distance : ℕ) (list : List ℕ) where
-  pub list-none : listRefusal distance list 0 ≡ 0
-  unfolding listRefusal times widthsRefusal rulesRefusal orElse
+  pub list-none : listRefusal distance list 0 ≡ none
+  unfolding listRefusal times widthsRefusal rulesRefusal orElse unlessRefused
   list-none = refl
 
   list-suc : (n : ℕ) → listRefusal distance list (suc n) ≡ orElse (refusal distance list) (listRefusal distance (drop gateBytes list) n)
   unfolding listRefusal times rulesRefusal
   list-suc n =
       let ws : List ℕ = gateWidths distance in
-      let a : ℕ = widthsRefusal ws list in
-      let b : ℕ = widthsRefusal (times n ws) (drop gateBytes list) in
-      let c : ℕ = gateRefusal list in
-      let d : ℕ = rulesRefusal (drop gateBytes list) n in
-      ap (λ (x : ℕ). orElse x (orElse c d)) (widths-append ws (times n ws) list ∙ ap (λ (k : ℕ). orElse a (widthsRefusal (times n ws) (drop k list))) (length-gate distance))
+      let a : Refusal = widthsRefusal ws list in
+      let b : Refusal = widthsRefusal (times n ws) (drop gateBytes list) in
+      let c : Refusal = untold (gateRefusal distance list) in
+      let d : Refusal = untold (rulesRefusal distance 16 (drop gateBytes list) n) in
+      ap₂ orElse (widths-append ws (times n ws) list ∙ ap (λ (k : ℕ). orElse a (widthsRefusal (times n ws) (drop k list))) (length-gate distance))
+      (untold-orElse _ _ ∙ ap (orElse c) (rules-untold distance (16 + gateBits distance) 16 (drop gateBytes list) n))
       ∙ orElse-assoc a b (orElse c d)
-      ∙ ap (orElse a) (only-swap b c d (only-widths (times n ws) (drop gateBytes list)) (only-gate list))
+      ∙ ap (orElse a) (only-swap b c d (only-widths (times n ws) (drop gateBytes list)) (only-gate distance list))
       ∙ sym (orElse-assoc a c (orElse b d))
 
 -- a turn of the loop: a gate that is refused ends it, and one that is not hands on
-module _ (distance : ℕ) (list : List ℕ) (i m a : ℕ) (h : 0 < m) (e : a ≡ refusal distance (drop i list)) where
+module _ (distance : ℕ) (list : List ℕ) (i m : ℕ) (a : Refusal) (h : 0 < m) (e : a ≡ refusal distance (drop i list)) where
   list-more : orElse (refusal distance (drop i list)) (listRefusal distance (drop (i + gateBytes) list) (m - 1)) ≡ listRefusal distance (drop i list) m
   list-more =
       let n : suc (m - 1) ≡ m = omega arith in
@@ -209,29 +201,29 @@ module _ (distance : ℕ) (list : List ℕ) (i m a : ℕ) (h : 0 < m) (e : a ≡
       ∙ sym (list-suc distance (drop i list) (m - 1))
       ∙ ap (listRefusal distance (drop i list)) n
 
-  pub list-stop : (a ≡ 0 → ⊥) → a ≡ listRefusal distance (drop i list) m
+  pub list-stop : (a .number ≡ 0 → ⊥) → a ≡ listRefusal distance (drop i list) m
   list-stop ne = ends _ _ e ne ∙ list-more
 
-  pub list-go : a ≡ 0 → listRefusal distance (drop (i + gateBytes) list) (m - 1) ≡ listRefusal distance (drop i list) m
-  list-go z = sym (orElse-go _ _ (sym e ∙ z)) ∙ list-more
+  pub list-go : a .number ≡ 0 → listRefusal distance (drop (i + gateBytes) list) (m - 1) ≡ listRefusal distance (drop i list) m
+  list-go z = sym (orElse-go _ _ (sym (same-number e) ∙ z)) ∙ list-more
 
 -- a gate write that is not refused
 pub record Listed (distance most : ℕ) (list : List ℕ) (room : ℕ) : Type 0 where
   pub whole : length list % gateBytes ≤ 0
   pub few : gatesIn list ≤ most
-  pub right : listRefusal distance list (gatesIn list) ≡ 0
+  pub right : listRefusal distance list (gatesIn list) .number ≡ 0
   pub fits : sizeOf distance (gatesIn list) ≤ room
 
-pub listed : (distance most : ℕ) (list : List ℕ) (room : ℕ) → writeRefusal distance most list room ≡ 0 → Listed distance most list room
+pub listed : (distance most : ℕ) (list : List ℕ) (room : ℕ) → writeRefusal distance most list room .number ≡ 0 → Listed distance most list room
 unfolding writeRefusal
 listed distance most list room e =
     let e₁ = orElse-then _ _ e in
     let e₂ = orElse-then _ _ e₁ in
     record {
-      whole = ltb-false _ _ (refuse-none _ _ (orElse-first _ _ e));
-      few = ltb-false _ _ (refuse-none _ _ (orElse-first _ _ e₁));
+      whole = ltb-false _ _ (refuse-none _ _ _ (orElse-first _ _ e));
+      few = ltb-false _ _ (refuse-none _ _ _ (orElse-first _ _ e₁));
       right = orElse-first _ _ e₂;
-      fits = ltb-false _ _ (refuse-none _ _ (orElse-then _ _ e₂));
+      fits = ltb-false _ _ (refuse-none _ _ _ (orElse-then _ _ e₂));
     }
 
 -- ---- a gate and a header, put as one number
@@ -318,18 +310,16 @@ written-steps distance list o b c d hd ho whole eb ec ed =
     ∙ sym tail
 
 -- the two ways that a gate write ends
-module _ (list o : List ℕ) (a : ℕ) (e : a ≡ writeRefusal distanceWidth mostGates list (length o)) where
-  pub write-refused : (a ≡ 0 → ⊥) → (refusedWith a ≡ writeAnswer list o) × (o ≡ writeInto list o)
+module _ (list o : List ℕ) (a : Refusal) (e : a ≡ writeRefusal distanceWidth mostGates list (length o)) where
+  pub write-refused : (a .number ≡ 0 → ⊥) → (notWritten a ≡ writeAnswer list o) × (o ≡ writeInto list o)
   unfolding writeAnswer writeInto
   write-refused ne =
-      let h : writeRefusal distanceWidth mostGates list (length o) ≡ 0 → ⊥ = λ z. ne (e ∙ z) in
-      (ap refusedWith e ∙ sym (unless-some _ _ _ h), sym (unless-some _ _ _ h))
+      let h : writeRefusal distanceWidth mostGates list (length o) .number ≡ 0 → ⊥ = λ z. ne (same-number e ∙ z) in
+      (ap notWritten e ∙ sym (unless-some _ _ _ h), sym (unless-some _ _ _ h))
 
-  pub write-accepted : a ≡ 0 → (bytes : ℕ) (after : List ℕ) → bytes ≡ sizeOf distanceWidth (gatesIn list) → after ≡ written distanceWidth list o
-      → (_≡_ {A = GatesAnswer} (record { answer = a; gates = gatesIn list; bytes = bytes }) (writeAnswer list o)) × (after ≡ writeInto list o)
+  pub write-accepted : a .number ≡ 0 → (bytes : ℕ) (after : List ℕ) → bytes ≡ sizeOf distanceWidth (gatesIn list) → after ≡ written distanceWidth list o
+      → (writtenWith (gatesIn list) bytes ≡ writeAnswer list o) × (after ≡ writeInto list o)
   unfolding writeAnswer writeInto
   write-accepted z bytes after eb ea =
-      let h : writeRefusal distanceWidth mostGates list (length o) ≡ 0 = sym e ∙ z in
-      let answer : _≡_ {A = GatesAnswer} (record { answer = a; gates = gatesIn list; bytes = bytes }) (acceptedWith (gatesIn list) (sizeOf distanceWidth (gatesIn list))) =
-      λ i. record { answer = z i; gates = gatesIn list; bytes = eb i } in
-      (answer ∙ sym (unless-none _ _ _ h), ea ∙ sym (unless-none _ _ _ h))
+      let h : writeRefusal distanceWidth mostGates list (length o) .number ≡ 0 = sym (same-number e) ∙ z in
+      (ap (writtenWith (gatesIn list)) eb ∙ sym (unless-none _ _ _ h), ea ∙ sym (unless-none _ _ _ h))

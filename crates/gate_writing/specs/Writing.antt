@@ -3,9 +3,10 @@ use Prim.Native.Nat.{ℕ, _/_, _%_, _^_}
 use mathlib.Core.List.{List, [], _∷_, _++_}
 use lib.{ListN.length, ListN.getD, ListN.drop, Dec.ltb, Dec.leb}
 use Rattle.numbers.specs.Pieces.{times, pack}
-use Rattle.framing.specs.Refusals.{notWholeGates, tooManyGates, tooWide, noRoom, refuse, orElse, unlessRefused}
-use Rattle.gates.specs.Gates.{gateType, distanceWidth, gateBytes, gateWidths, sizeOf, paddingBits, rulesRefusal, refusedWith, acceptedWith}
-use Rattle.gates.specs.declared.GatesAnswer.{GatesAnswer}
+use Rattle.framing.specs.Refusals.{none, notWholeGates, tooManyGates, tooWide, noRoom, refuse, orElse, unlessRefused, untold}
+use Rattle.framing.specs.declared.refusals.Refusal.{Refusal}
+use Rattle.gates.specs.Gates.{gateType, distanceWidth, gateBytes, gateWidths, sizeOf, paddingBits, rulesRefusal}
+use Rattle.gate_writing.specs.declared.GatesWritten.{GatesWritten}
 
 abbrev pub mostGates : ℕ  -- the most gates that are written
 mostGates = 28
@@ -27,27 +28,35 @@ unfoldable pub written : ℕ → List ℕ → List ℕ → List ℕ
 written distance list o = pack o 0 (packetWidths distance (gatesIn list)) (packetValues distance (gatesIn list) list)
 
 -- no byte has more digits than its piece is wide
-unfoldable pub widthsRefusal : List ℕ → List ℕ → ℕ
-widthsRefusal [] list = 0
+unfoldable pub widthsRefusal : List ℕ → List ℕ → Refusal
+widthsRefusal [] list = none
 widthsRefusal (w ∷ ws) list = orElse (refuse (leb (2 ^ w) (getD list 0 0)) tooWide) (widthsRefusal ws (drop 1 list))
 
--- the rules on the first n gates of a list
-unfoldable pub listRefusal : ℕ → List ℕ → ℕ → ℕ
-listRefusal distance list n = orElse (widthsRefusal (times n (gateWidths distance)) list) (rulesRefusal list n)
+-- the rules on the first n gates of a list, the place untold: the gates stand in no sub-packet yet
+unfoldable pub listRefusal : ℕ → List ℕ → ℕ → Refusal
+listRefusal distance list n = orElse (widthsRefusal (times n (gateWidths distance)) list) (untold (rulesRefusal distance 16 list n))
 
 -- the rules of a gate write in their order, at most `most` gates into room bytes
-unfoldable pub writeRefusal : ℕ → ℕ → List ℕ → ℕ → ℕ
+unfoldable pub writeRefusal : ℕ → ℕ → List ℕ → ℕ → Refusal
 writeRefusal distance most list room =
     orElse (refuse (ltb 0 (length list % gateBytes)) notWholeGates)
     (orElse (refuse (ltb most (gatesIn list)) tooManyGates)
     (orElse (listRefusal distance list (gatesIn list)) (refuse (ltb room (sizeOf distance (gatesIn list))) noRoom)))
 
--- the answer: the gates, and the bytes written; a refusal gives no gates and zero bytes
-unfoldable pub writeAnswer : List ℕ → List ℕ → GatesAnswer
+-- the answer where nothing refuses: the gates, and the bytes written
+abbrev pub writtenWith : ℕ → ℕ → GatesWritten
+writtenWith gates bytes = record { answer = 0; gates = gates; bytes = bytes }
+
+-- and of a refusal: its number, no gates and zero bytes
+abbrev pub notWritten : Refusal → GatesWritten
+notWritten r = record { answer = r .number; gates = 0; bytes = 0 }
+
+-- the answer
+unfoldable pub writeAnswer : List ℕ → List ℕ → GatesWritten
 writeAnswer list o =
-    unlessRefused (writeRefusal distanceWidth mostGates list (length o)) (acceptedWith (gatesIn list) (sizeOf distanceWidth (gatesIn list)))
-    (refusedWith (writeRefusal distanceWidth mostGates list (length o)))
+    unlessRefused (writeRefusal distanceWidth mostGates list (length o) .number) (writtenWith (gatesIn list) (sizeOf distanceWidth (gatesIn list)))
+    (notWritten (writeRefusal distanceWidth mostGates list (length o)))
 
 -- the output afterwards; a refusal changes nothing
 unfoldable pub writeInto : List ℕ → List ℕ → List ℕ
-writeInto list o = unlessRefused (writeRefusal distanceWidth mostGates list (length o)) (written distanceWidth list o) o
+writeInto list o = unlessRefused (writeRefusal distanceWidth mostGates list (length o) .number) (written distanceWidth list o) o

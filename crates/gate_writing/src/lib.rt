@@ -1,16 +1,24 @@
 // Gates written as a sub-packet: everything is judged first, and written afterwards, so that a refusal changes nothing. `distance` is the
 // width of a gate's distance.
 use framing::refusals;
-use gates::GatesAnswer;
+use framing::refusals::Refusal;
 ghost use mathlib.Core.Path.{_≡_};
 ghost use Prim.Native.Nat.{_+_, _*_, _≤_};
 ghost use lib.ListN.{length, getD, drop};
 ghost use Rattle.numbers.specs.Pieces.{times, pack};
-ghost use Rattle.framing.specs.Refusals.{orElse};
+ghost use Rattle.framing.specs.Refusals.{orElse, untold};
 ghost use Rattle.gates.specs.Gates.{gateBytes, gateWidths, sizeOf, gateRefusal};
 ghost use Rattle.gate_writing.specs.Writing.{written, widthsRefusal, listRefusal, writeRefusal, writeAnswer, writeInto};
 
 const MOST_GATES: usize = 28;
+
+// What a gate write answers: 0 with the gates and the bytes of the sub-packet, or a refusal's number with zeros.
+#[repr(C)]
+pub struct GatesWritten {
+    pub answer: u32,
+    pub gates: usize,
+    pub bytes: usize,
+}
 
 fn wide(x: u8) -> u32
     ensures { λ r. ⌜ (r ≡ x) × (r ≤ 255) ⌝ }
@@ -27,10 +35,11 @@ fn pair_at(list: &[u8], i: usize) -> u32
 }
 
 // The refusal that the gate at `at` of a list gets. Only the distance's high piece, manning and whistling are judged by their widths: a whole byte
-// is as wide as its piece, and the rules allow no number, suffix, class or whistling type as high as a value that is too wide.
-fn gate_refusal(list: &[u8], distance: u8, at: usize) -> u32
+// is as wide as its piece, and the rules allow no number, suffix, class or whistling type as high as a value that is too wide. A
+// rule's place is left out: the gate stands in no sub-packet yet.
+fn gate_refusal(list: &[u8], distance: u8, at: usize) -> Refusal
     requires { ⌜ (distance ≤ 15) × (at + gateBytes ≤ length (now list)) ⌝ }
-    ensures { λ r. ⌜ r ≡ orElse (widthsRefusal (gateWidths distance) (drop at (now (list .entry)))) (gateRefusal (drop at (now (list .entry)))) ⌝ }
+    ensures { λ r. ⌜ r ≡ orElse (widthsRefusal (gateWidths distance) (drop at (now (list .entry)))) (untold (gateRefusal distance (drop at (now (list .entry))))) ⌝ }
 {
     let high = distance as usize - numbers::at_most(distance as usize, 8);
     if 1u32 << high <= wide(list[at]) {
@@ -42,17 +51,22 @@ fn gate_refusal(list: &[u8], distance: u8, at: usize) -> u32
     if 1 < wide(list[at + 7]) {
         return refusals::TOO_WIDE;
     }
-    gates::gate_rules(
+    let rules = gates::gate_rules(
+        distance,
         pair_at(list, at + 2),
         wide(list[at + 4]),
         wide(list[at + 6]),
         wide(list[at + 8]),
-    )
+    );
+    Refusal {
+        number: rules.number,
+        place: 0,
+    }
 }
 
-// The refusal that the n gates of a list get, a gate at a time: a width and a rule refuse by the same number, so that of two gates it does not
-// matter which refuses.
-fn list_refusal(list: &[u8], distance: u8, n: usize) -> u32
+// The refusal that the n gates of a list get, a gate at a time: a width and a rule refuse by the same number and tell no place, so that of two
+// gates it does not matter which refuses.
+fn list_refusal(list: &[u8], distance: u8, n: usize) -> Refusal
     requires { ⌜ (distance ≤ 15) × (gateBytes * n ≤ length (now list)) ⌝ }
     ensures { λ r. ⌜ r ≡ listRefusal distance (now (list .entry)) n ⌝ }
 {
@@ -60,7 +74,7 @@ fn list_refusal(list: &[u8], distance: u8, n: usize) -> u32
     let mut i = 0;
     while i < n {
         let refusal = gate_refusal(list, distance, at);
-        if refusal != refusals::NONE {
+        if refusal.number != refusals::ACCEPTED {
             return refusal;
         }
         at += gates::GATE_BYTES;
@@ -70,7 +84,7 @@ fn list_refusal(list: &[u8], distance: u8, n: usize) -> u32
 }
 
 // The refusal that a write of at most `most` gates into `room` bytes gets.
-fn write_refusal(list: &[u8], room: usize, distance: u8, most: usize) -> u32
+fn write_refusal(list: &[u8], room: usize, distance: u8, most: usize) -> Refusal
     requires { ⌜ (distance ≤ 15) × (most ≤ 31) ⌝ }
     ensures { λ r. ⌜ r ≡ writeRefusal distance most (now (list .entry)) room ⌝ }
 {
@@ -82,7 +96,7 @@ fn write_refusal(list: &[u8], room: usize, distance: u8, most: usize) -> u32
         return refusals::TOO_MANY_GATES;
     }
     let refusal = list_refusal(list, distance, n);
-    if refusal != refusals::NONE {
+    if refusal.number != refusals::ACCEPTED {
         return refusal;
     }
     if room < (gates::bits_of(distance, n as u32) + 7) / 8 {
@@ -151,22 +165,22 @@ fn put_packet(out: &mut [u8], distance: u8, list: &[u8], n: usize) -> usize
 }
 
 // Writes the gates of `list`, 9 bytes for each, as a sub-packet from the start of `out`. What lies behind it in `out` stays.
-pub fn write_gates(list: &[u8], out: &mut [u8]) -> GatesAnswer
+pub fn write_gates(list: &[u8], out: &mut [u8]) -> GatesWritten
     ensures { λ r. ⌜ r ≡ writeAnswer (now (list .entry)) (now (out .entry)) ⌝ }
     ensures { λ _. ⌜ now (out .exit) ≡ writeInto (now (list .entry)) (now (out .entry)) ⌝ }
 {
-    let answer = write_refusal(list, out.len(), gates::DISTANCE_WIDTH, MOST_GATES);
-    if answer != refusals::NONE {
-        return GatesAnswer {
-            answer,
+    let judged = write_refusal(list, out.len(), gates::DISTANCE_WIDTH, MOST_GATES);
+    if judged.number != refusals::ACCEPTED {
+        return GatesWritten {
+            answer: judged.number,
             gates: 0,
             bytes: 0,
         };
     }
     let gates = list.len() / gates::GATE_BYTES;
     let bytes = put_packet(out, gates::DISTANCE_WIDTH, list, gates);
-    GatesAnswer {
-        answer,
+    GatesWritten {
+        answer: refusals::ACCEPTED,
         gates,
         bytes,
     }

@@ -3,8 +3,8 @@ use Prim.Native.Nat.{ℕ, zero, suc, _+_, _-_, _*_, _/_}
 use mathlib.Core.List.{List, [], _∷_}
 use lib.{ListN.getD, ListN.drop, Dec.ltb}
 use Rattle.numbers.specs.Fields.{field}
-use Rattle.framing.specs.Refusals.{notAllowed, refuse, orElse}
-use Rattle.gates.specs.declared.GatesAnswer.{GatesAnswer}
+use Rattle.framing.specs.Refusals.{countAt, none, notAllowed, refuse, orElse, movedBy}
+use Rattle.framing.specs.declared.refusals.Refusal.{Refusal}
 
 abbrev pub gateType : ℕ  -- the type of a gate sub-packet
 gateType = 3
@@ -22,7 +22,7 @@ gateWidths distance = (distance - 8) ∷ 8 ∷ 2 ∷ 8 ∷ 3 ∷ 1 ∷ 3 ∷ 1 �
 
 -- the count of gates, the 5 bits behind type and length
 abbrev pub countOf : List ℕ → ℕ
-countOf s = field s 11 5
+countOf s = field s countAt 5
 
 -- the bits that a gate takes: 35 with a 15-bit distance
 abbrev pub gateBits : ℕ → ℕ
@@ -52,27 +52,34 @@ lastClass = 6
 abbrev pub lastWhistle : ℕ
 lastWhistle = 2
 
--- what is allowed: numbers from 1 on, the other fields from 0 on
-unfoldable pub gateRules : ℕ → ℕ → ℕ → ℕ → ℕ
-gateRules number suffix class whistle =
-    orElse (refuse (ltb number 1) notAllowed)
-    (orElse (refuse (ltb lastNumber number) notAllowed)
-    (orElse (refuse (ltb lastSuffix suffix) notAllowed)
-    (orElse (refuse (ltb lastClass class) notAllowed) (refuse (ltb lastWhistle whistle) notAllowed))))
+-- where the fields that are judged start, counted from the gate's first bit: the number behind the distance, the suffix behind its 10 bits, the
+-- class behind 3 bits of suffix and 1 of manning, the whistling type behind 3 of class and 1 of whistling
+abbrev pub numberAt : ℕ → ℕ
+numberAt distance = distance
+
+abbrev pub suffixAt : ℕ → ℕ
+suffixAt distance = distance + 10
+
+abbrev pub classAt : ℕ → ℕ
+classAt distance = distance + 14
+
+abbrev pub whistleAt : ℕ → ℕ
+whistleAt distance = distance + 18
+
+-- what is allowed: numbers from 1 on, the other fields from 0 on. The place is counted from the gate's first bit
+unfoldable pub gateRules : ℕ → ℕ → ℕ → ℕ → ℕ → Refusal
+gateRules distance number suffix class whistle =
+    orElse (refuse (ltb number 1) (notAllowed (numberAt distance)))
+    (orElse (refuse (ltb lastNumber number) (notAllowed (numberAt distance)))
+    (orElse (refuse (ltb lastSuffix suffix) (notAllowed (suffixAt distance)))
+    (orElse (refuse (ltb lastClass class) (notAllowed (classAt distance))) (refuse (ltb lastWhistle whistle) (notAllowed (whistleAt distance))))))
 
 -- the rules on a gate's 9 bytes
-unfoldable pub gateRefusal : List ℕ → ℕ
-gateRefusal gate = gateRules (getD gate 2 0 * 256 + getD gate 3 0) (getD gate 4 0) (getD gate 6 0) (getD gate 8 0)
+unfoldable pub gateRefusal : ℕ → List ℕ → Refusal
+gateRefusal distance gate = gateRules distance (getD gate 2 0 * 256 + getD gate 3 0) (getD gate 4 0) (getD gate 6 0) (getD gate 8 0)
 
--- the rules on each of the first n gates of a list, 9 bytes for each
-unfoldable pub rulesRefusal : List ℕ → ℕ → ℕ
-rulesRefusal list zero = 0
-rulesRefusal list (suc n) = orElse (gateRefusal list) (rulesRefusal (drop gateBytes list) n)
-
--- the answer of a gate read or write that is refused: zeros
-abbrev pub refusedWith : ℕ → GatesAnswer
-refusedWith n = record { answer = n; gates = 0; bytes = 0 }
-
--- and of one that is not: the gates, and the bytes of the sub-packet
-abbrev pub acceptedWith : ℕ → ℕ → GatesAnswer
-acceptedWith gates bytes = record { answer = 0; gates = gates; bytes = bytes }
+-- the rules on each of the first n gates of a list, 9 bytes for each, of which the first starts at bit p of the sub-packet
+unfoldable pub rulesRefusal : ℕ → ℕ → List ℕ → ℕ → Refusal
+rulesRefusal distance p list zero = none
+rulesRefusal distance p list (suc n) =
+    orElse (movedBy p (gateRefusal distance list)) (rulesRefusal distance (p + gateBits distance) (drop gateBytes list) n)

@@ -1,5 +1,6 @@
-// What reading and writing gates share: the bits of a gate, what is allowed in it, and the answer. `distance` is the width of a gate's distance.
+// What reading and writing gates share: the bits of a gate, and what is allowed in it. `distance` is the width of a gate's distance.
 use framing::refusals;
+use framing::refusals::Refusal;
 ghost use mathlib.Core.Path.{_≡_};
 ghost use Prim.Native.Nat.{_+_, _*_, _≤_};
 ghost use Rattle.gates.specs.Gates.{countOf, gateBits, bitsOf, gateRules};
@@ -32,13 +33,12 @@ const LAST_CLASS: u32 = 6;
 
 const LAST_WHISTLE: u32 = 2;
 
-// What a gate read or write answers: 0 with the gates and the bytes of the sub-packet, or a refusal's number with zeros.
-#[repr(C)]
-pub struct GatesAnswer {
-    pub answer: u32,
-    pub gates: usize,
-    pub bytes: usize,
-}
+// Where the judged fields behind the number start, counted from the end of the distance.
+const SUFFIX_AT: u32 = 10;
+
+const CLASS_AT: u32 = 14;
+
+const WHISTLE_AT: u32 = 18;
 
 // The count of gates that the sub-packet says: the 5 lowest digits of the header's 16.
 pub fn count_of(s: &[u8]) -> usize
@@ -61,24 +61,25 @@ pub fn bits_of(distance: u8, n: u32) -> usize
     16 + gate_bits(distance) * n as usize
 }
 
-// The refusal that a gate's fields get.
-pub fn gate_rules(number: u32, suffix: u32, class: u32, whistle: u32) -> u32
-    ensures { λ r. ⌜ r ≡ gateRules number suffix class whistle ⌝ }
+// The refusal that a gate's fields get; its place is counted from the gate's first bit.
+pub fn gate_rules(distance: u8, number: u32, suffix: u32, class: u32, whistle: u32) -> Refusal
+    ensures { λ r. ⌜ r ≡ gateRules distance number suffix class whistle ⌝ }
 {
+    let number_at = distance as u32;
     if number < 1 {
-        return refusals::NOT_ALLOWED;
+        return refusals::not_allowed(number_at);
     }
     if LAST_NUMBER < number {
-        return refusals::NOT_ALLOWED;
+        return refusals::not_allowed(number_at);
     }
     if LAST_SUFFIX < suffix {
-        return refusals::NOT_ALLOWED;
+        return refusals::not_allowed(number_at + SUFFIX_AT);
     }
     if LAST_CLASS < class {
-        return refusals::NOT_ALLOWED;
+        return refusals::not_allowed(number_at + CLASS_AT);
     }
     if LAST_WHISTLE < whistle {
-        return refusals::NOT_ALLOWED;
+        return refusals::not_allowed(number_at + WHISTLE_AT);
     }
     refusals::NONE
 }

@@ -1,8 +1,7 @@
 // Runs the packet layer's public functions on the cases that standard input holds, and prints a line for each.
 // A case: a kind (1 framing, 2 gates read, 3 gates written), the output's room and the input's length (2 bytes each), and the input.
-// A line: kind, answer, gates, bytes, and the whole output afterwards, which held AA before. Framing prints the sub-packet's length and the
-// sub-packet.
-use gates::GatesAnswer;
+// A line: kind, answer, what is told besides, and the whole output afterwards, which held AA before. A read tells place, gates and bytes, a write
+// gates and bytes. Framing tells the place and the sub-packet's length, and prints the sub-packet.
 use libc::STDIN_FILENO;
 use libc::STDOUT_FILENO;
 ghost use mathlib.Core.Path.{_≡_};
@@ -30,37 +29,36 @@ fn end_line() {
     io::write_all(STDOUT_FILENO, b"\n");
 }
 
-fn print_answer(kind: usize, a: GatesAnswer) {
+fn print_kind(kind: usize, answer: u32) {
     print_number(kind);
-    print_number(a.answer as usize);
-    print_number(a.gates);
-    print_number(a.bytes);
+    print_number(answer as usize);
 }
 
 fn run_frame(s: &[u8]) {
+    let refusal = framing::frame_refusal(s);
     let sub = framing::frame(s);
-    print_answer(
-        1,
-        GatesAnswer {
-            answer: framing::frame_refusal(s),
-            gates: 0,
-            bytes: sub.len(),
-        },
-    );
+    print_kind(1, refusal.number);
+    print_number(refusal.place as usize);
+    print_number(sub.len());
     print_bytes(sub);
     end_line();
 }
 
 fn run_read(s: &[u8], out: &mut [u8]) {
-    let a = gate_reading::read_gates(s, out);
-    print_answer(2, a);
+    let read = gate_reading::read_gates(s, out);
+    print_kind(2, read.answer);
+    print_number(read.place as usize);
+    print_number(read.gates);
+    print_number(read.bytes);
     print_bytes(out);
     end_line();
 }
 
 fn run_write(s: &[u8], out: &mut [u8]) {
-    let a = gate_writing::write_gates(s, out);
-    print_answer(3, a);
+    let written = gate_writing::write_gates(s, out);
+    print_kind(3, written.answer);
+    print_number(written.gates);
+    print_number(written.bytes);
     print_bytes(out);
     end_line();
 }

@@ -5,6 +5,7 @@ use Prim.Native.Nat.{ℕ}
 use lib.ListN.{length}
 use Rattle.numbers.specs.Fields.{bitAt, field}
 use Rattle.numbers.specs.Pieces.{times, unpack}
+use Rattle.fields.specs.FirstSet.{firstSet}
 use Rattle.framing.specs.Refusals.{refuse, orElse, unlessRefused}
 use Rattle.framing.specs.Framing.{headRefusal}
 use Rattle.gates.specs.Gates.{gateWidths, gateRules, gateRefusal, rulesRefusal}
@@ -38,7 +39,7 @@ use Rattle.papers.proofs.Viewed.{ruled, after, endIn, viewed, by-states
 -- by states, what the table comes to is computed
 viewed-as-printed : map (λ (l : Line). viewed (l .case)) table ≡ map (λ (l : Line). l .printed) table
 unfolding
-    viewed ruled after endIn flagsOf bitAt field times unpack refuse orElse unlessRefused headRefusal gateWidths gateRules gateRefusal rulesRefusal gatesOf
+    viewed ruled after endIn flagsOf bitAt field times unpack firstSet refuse orElse unlessRefused headRefusal gateWidths gateRules gateRefusal rulesRefusal gatesOf
     bodyRefusal readRefusal readAnswer readInto transitions choose refuses nextStep first isFound orElseFound oneTo isPosition isNoneOrLocation locationFrom standsUnder placeUnder room setAt
     leftFor nearer nearest limitStop orderStop dangerStop orderStops endWith holdsLoco isSought soughtIn findIn isTaken markFor slotMarked marked applied
     among classOf cellOf behind shareOfL1 shareBehind when unless ruledBy granted ticketFor requestGround rowOfFound endAnswer changedIf stepTaken modeStepped done

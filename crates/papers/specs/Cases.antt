@@ -3,8 +3,8 @@
 use mathlib.Core.List.{List, [], _∷_, _++_, foldl}
 use Prim.Native.Nat.{ℕ, _-_}
 use lib.ListN.{replicate, set}
-use Rattle.gates.specs.{Gates.gateBytes, declared.GatesAnswer.GatesAnswer}
-use Rattle.gate_reading.specs.Reading.{readAnswer, readInto}
+use Rattle.gates.specs.Gates.{gateBytes}
+use Rattle.gate_reading.specs.{Reading.readAnswer, Reading.readInto, declared.GatesRead.GatesRead}
 use Rattle.modes.specs.{Flags.flagCount, Next.nextStep, declared.Step.Step}
 use Rattle.kinds.specs.{declared.Loco.Loco, declared.Ticket.Ticket}
 use Rattle.rules.specs.{declared.ruling.Answer.Answer, Rules.Op, Rules.request}
@@ -29,9 +29,9 @@ flagsOf (n ∷ ns) = set (flagsOf ns) (n - 1) 1
 abbrev pub untouched : List ℕ
 untouched = replicate gateBytes 255
 
--- the numbers of a gate read's answer: the answer, gates and bytes used
-abbrev pub gateNumbers : GatesAnswer → List ℕ
-gateNumbers a = a .answer ∷ a .gates ∷ a .bytes ∷ []
+-- the numbers of a gate read's answer: the answer, the place, gates and bytes used
+abbrev pub gateNumbers : GatesRead → List ℕ
+gateNumbers a = a .answer ∷ a .place ∷ a .gates ∷ a .bytes ∷ []
 
 -- of a mode step's
 abbrev pub stepNumbers : Step → List ℕ

@@ -1,5 +1,5 @@
 -- THE TABLE: the worked examples that the paper marks (p), each with the numbers that the paper gives for it. Beside them stand those that an answer
--- has too: the bytes of a sub-packet, the first ticket and slot of an empty session, the steps that lead to an end.
+-- has too: the place of a refusal, the bytes of a sub-packet, the first ticket and slot of an empty session, the steps that lead to an end.
 use mathlib.Core.List.{List, [], _∷_, _++_}
 use Prim.Native.Nat.{ℕ, _/_, _%_}
 use Rattle.transitions.specs.Names.{LS, FS, OV, TR, IS}
@@ -22,11 +22,11 @@ accepted first second third = 0 ∷ first ∷ second ∷ third ∷ []
 
 -- gates read, and bytes used
 abbrev pub gatesRead : ℕ → ℕ → List ℕ
-gatesRead gates bytes = 0 ∷ gates ∷ bytes ∷ []
+gatesRead gates bytes = 0 ∷ 0 ∷ gates ∷ bytes ∷ []
 
--- a gate read that is refused
-abbrev pub refused : ℕ → List ℕ
-refused ground = ground ∷ 0 ∷ 0 ∷ []
+-- a gate read that is refused, and the bit at fault
+abbrev pub refused : ℕ → ℕ → List ℕ
+refused ground place = ground ∷ place ∷ 0 ∷ 0 ∷ []
 
 -- a gate outside a sub-packet: distance and number in two bytes each, high byte first, then one for each other field
 abbrev pub gate : ℕ → ℕ → ℕ → ℕ → ℕ → ℕ → ℕ → List ℕ
@@ -68,7 +68,7 @@ abbrev pub table : List Line
 table =
     (reading (0x30 ∷ 0x40 ∷ []) gives gatesRead 0 2 ++ untouched)
     ∷ (reading (0x30 ∷ 0xE1 ∷ 0x05 ∷ 0x14 ∷ 0x06 ∷ 0x12 ∷ 0x80 ∷ []) gives gatesRead 1 7 ++ gate 650 12 1 0 2 1 0)
-    ∷ (reading (0x30 ∷ 0xE1 ∷ 0x05 ∷ 0x14 ∷ 0x06 ∷ 0x12 ∷ 0x81 ∷ []) gives refused 5 ++ untouched)
+    ∷ (reading (0x30 ∷ 0xE1 ∷ 0x05 ∷ 0x14 ∷ 0x06 ∷ 0x12 ∷ 0x81 ∷ []) gives refused 5 55 ++ untouched)
     ∷ (requesting loco1 54 gives accepted 1 1 1)
     ∷ (requesting loco1 55 gives accepted 1 1 2)
     ∷ (requesting loco1 324 gives accepted 1 1 6)

@@ -9,20 +9,20 @@ use Rattle.framing.proofs.head_refusal.Tie as tie
 
 returns : tie.Need-returns
 unfolding headRefusal
-returns c = below _ _ _ _ (c .if1 .taken)
+returns c = below _ _ _ (c .if1 .taken)
 
 returns-2 : tie.Need-returns-2
 unfolding headRefusal
 returns-2 c = let a = c .before .before .before .before .args in
     not-below (length (a .s .now)) 2 _ _ (omega arith)
-    (below (typeOf (a .s .now)) (a .low) _ _ (omega arith))
+    (below (typeOf (a .s .now)) (a .low) _ (omega arith))
 
 returns-3 : tie.Need-returns-3
 unfolding headRefusal
 returns-3 c = let a = c .before .before .before .before .before .args in
     not-below (length (a .s .now)) 2 _ _ (omega arith)
     (not-below (typeOf (a .s .now)) (a .low) _ _ (omega arith)
-    (below (a .high) (typeOf (a .s .now)) _ _ (omega arith)))
+    (below (a .high) (typeOf (a .s .now)) _ (omega arith)))
 
 returns-4 : tie.Need-returns-4
 unfolding headRefusal
@@ -30,7 +30,7 @@ returns-4 c = let a = c .before .before .before .before .before .before .before 
     not-below (length (a .s .now)) 2 _ _ (omega arith)
     (not-below (typeOf (a .s .now)) (a .low) _ _ (omega arith)
     (not-below (a .high) (typeOf (a .s .now)) _ _ (omega arith)
-    (below (lengthOf (a .s .now)) 2 _ _ (omega arith))))
+    (below (lengthOf (a .s .now)) 2 _ (omega arith))))
 
 returns-5 : tie.Need-returns-5
 unfolding headRefusal

@@ -6,7 +6,7 @@ use Rattle.gate_reading.proofs.gate_refusal.Statement.{statement}
 use Rattle.gate_reading.proofs.gate_refusal.Tie as tie
 
 returns : tie.Need-returns
-returns c = c .gate-rules .ensures ∙ digits-ruled (c .before .args .gate)
+returns c = c .gate-rules .ensures ∙ digits-ruled (c .before .args .distance) (c .before .args .gate)
 
 pub gate-refusal-spec : {M : Type 1} → statement M
 gate-refusal-spec =

@@ -5,10 +5,10 @@ use mathlib.Core.List.{List}
 use native.Mathlib.Omega.{arith}
 use lib.ListN.{length}
 use lib.Seq.{sets, slice}
-use Rattle.framing.proofs.RefusalLaws.{next, ends, unless-none, unless-some}
+use Rattle.framing.proofs.RefusalLaws.{same-number, next, ends, unless-none, unless-some}
 use Rattle.gates.specs.Gates.{rulesRefusal}
 use Rattle.gate_reading.specs.Steps.{firstGates, endRefusal, spread}
-use Rattle.gate_reading.proofs.ReadingLaws.{kept-gates, none-taken, end-room}
+use Rattle.gate_reading.proofs.ReadingLaws.{kept-gates, none-taken, end-room, end-clear}
 use borrow.Author.Needs.{needs}
 use Rattle.gate_reading.proofs.take_gates.Statement.{statement}
 use Rattle.gate_reading.proofs.take_gates.Tie as tie
@@ -23,34 +23,38 @@ bytes-eq c = let a = c .before .before .before .before .before .args in
     ap (λ (l : List ℕ). spread (slice 0 (a .n) l)) (c .load-gates .ensures)
     ∙ kept-gates (a .distance) (a .s .now) (a .n) _ (omega arith) (omega arith) (omega arith)
 
-rules-eq : (c : tie.After-rules-refusal) → c .rules-refusal .result ≡ rulesRefusal (all (c .before .before .before .before .before .before .before .before)) (c .before .before .before .before .before .before .before .before .args .n)
-rules-eq c = c .rules-refusal .ensures ∙ ap (λ (l : List ℕ). rulesRefusal l (c .before .before .before .before .before .before .before .before .args .n)) (bytes-eq (c .before .before .before))
+rules-eq : (c : tie.After-rules-refusal) → c .rules-refusal .result ≡ rulesRefusal (c .before .before .before .before .before .before .before .before .args .distance) 16 (all (c .before .before .before .before .before .before .before .before)) (c .before .before .before .before .before .before .before .before .args .n)
+rules-eq c = let a = c .before .before .before .before .before .before .before .before .args in
+    c .rules-refusal .ensures ∙ ap (λ (l : List ℕ). rulesRefusal (a .distance) 16 l (a .n)) (bytes-eq (c .before .before .before))
 
-end-none : (c : tie.Else3) → endRefusal (c .before .before .before .before .before .before .before .before .before .before .before .args .distance) (c .before .before .before .before .before .before .before .before .before .before .before .args .s .now) (c .before .before .before .before .before .before .before .before .before .before .before .args .n) (length (c .before .before .before .before .before .before .before .before .before .before .before .args .out .now)) ≡ 0
-end-none c = sym (c .before .end-refusal .ensures) ∙ c .if3 .left
+-- where the rules refuse nothing, and nothing refuses behind the gates
+rules-none : (c : tie.Else2) → rulesRefusal (c .before .before .before .before .before .before .before .before .before .before .args .distance) 16 (all (c .before .before .before .before .before .before .before .before .before .before)) (c .before .before .before .before .before .before .before .before .before .before .args .n) .number ≡ 0
+rules-none c = sym (same-number (rules-eq (c .before .before))) ∙ c .if2 .left
+
+end-none : (c : tie.Else3) → endRefusal (c .before .before .before .before .before .before .before .before .before .before .before .before .before .args .distance) (c .before .before .before .before .before .before .before .before .before .before .before .before .before .args .s .now) (c .before .before .before .before .before .before .before .before .before .before .before .before .before .args .n) (length (c .before .before .before .before .before .before .before .before .before .before .before .before .before .args .out .now)) .number ≡ 0
+end-none c = sym (same-number (c .before .before .end-refusal .ensures)) ∙ c .if3 .left
 
 returns : tie.Need-returns
 returns c = let a = c .before .before .before .args in
     none-taken (a .distance) (a .s .now) (a .n) (a .out .now) (c .if1 .taken)
 
 returns-2 : tie.Need-returns-2
-returns-2 c = (ends _ _ (rules-eq (c .before)) (c .if2 .taken), sym (unless-some _ _ _ (c .if2 .taken)))
+returns-2 c = (ends _ _ (rules-eq (c .before .before)) (c .if2 .taken), sym (unless-some _ _ _ (c .if2 .taken)))
 
 returns-3 : tie.Need-returns-3
-returns-3 c = (
-  next _ _ (sym (rules-eq (c .before .before .before)) ∙ c .before .before .if2 .left) (c .before .end-refusal .ensures),
-  sym (unless-some _ _ _ (c .if3 .taken)),
-)
+returns-3 c = (next _ _ (rules-none (c .before .before .before)) (c .before .before .end-refusal .ensures), sym (unless-some _ _ _ (c .if3 .taken)))
 
 fill-gates-requires : tie.Need-fill-gates-requires
-fill-gates-requires c κs = let a = c .before .before .before .before .before .before .before .before .before .before .before .before .before .args in
+fill-gates-requires c κs = let a = c .before .before .before .before .before .before .before .before .before .before .before .before .before .before .before .args in
     omega (arith, end-room (a .distance) (a .s .now) (a .n) (length (a .out .now)) (end-none (c .before .before)))
 
 returns-4 : tie.Need-returns-4
-returns-4 c = let rules = c .before .before .before .before .before .before .before .before in (
-  next _ _ (sym (rules-eq rules) ∙ c .before .before .before .before .before .before .before .if2 .left) (sym (end-none (c .before .before .before .before .before))),
-  c .before .before .fill-gates .ensures ∙ ap (sets _ 0) (bytes-eq (rules .before .before .before)) ∙ sym (unless-none _ _ _ refl),
-)
+returns-4 c = let last = c .before .before .before .before .before in
+    let rules = last .before .before .before in
+    let a = rules .before .before .before .before .before .before .before .before .before .before .args in (
+      next _ _ (rules-none rules) (end-clear (a .distance) (a .s .now) (a .n) (length (a .out .now)) (end-none last)),
+      c .before .before .fill-gates .ensures ∙ ap (sets _ 0) (bytes-eq (rules .before .before .before .before .before)) ∙ sym (unless-none _ _ _ refl),
+    )
 
 pub take-gates-spec : {M : Type 1} → statement M
 take-gates-spec =

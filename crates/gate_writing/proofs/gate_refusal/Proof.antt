@@ -7,6 +7,7 @@ use native.Mathlib.Omega.{arith}
 use lib.ListN.{getD, drop}
 use lib.Pow.{shl-exact}
 use lib.Seq.{getD-drop}
+use Rattle.framing.specs.Refusals.{untold}
 use Rattle.gates.specs.Gates.{gateWidths, gateRules, gateRefusal}
 use Rattle.gate_writing.proofs.WritingLaws.{first-byte, pair-drop, gate-wide, gate-ruled}
 use borrow.Author.Needs.{needs}
@@ -51,8 +52,7 @@ returns-4 c =
     let class = c .before .before .before .wide5 .ensures .0 ∙ sym (piece 6) in
     let suffix = c .before .before .before .before .before .wide4 .ensures .0 ∙ sym (piece 4) in
     let number = c .before .before .before .before .before .before .before .pair-at .ensures .0 ∙ pair-drop (a .list .now) (a .at) 2 in
-    c .gate-rules .ensures
-    ∙ (λ i. gateRules (number i) (suffix i) (class i) (whistle i))
+    ap untold (c .gate-rules .ensures ∙ (λ i. gateRules (a .distance) (number i) (suffix i) (class i) (whistle i)))
     ∙ gate-ruled (a .distance) g byte (omega (arith, limit most, first-byte (a .list .now) (a .at))) (omega (arith, piece 5)) (omega (arith, piece 7))
 
 pub gate-refusal-spec : {M : Type 1} → statement M

@@ -18,19 +18,19 @@ abbrev μ-loop : tie.MeasureT-loop
 μ-loop list distance n at₀ i₀ at i = n - i
 
 returns : tie.Need-returns Inv-loop μ-loop
-returns c = let l = c .before .before .before .loop in
-    let a = c .before .before .before .before .before .args in
-    list-stop (a .distance) (a .list .now) (l .at) (a .n - l .i) (c .before .gate-refusal .result) (omega arith) (c .before .gate-refusal .ensures) (c .if1 .taken)
+returns c = let l = c .before .before .before .before .loop in
+    let a = c .before .before .before .before .before .before .args in
+    list-stop (a .distance) (a .list .now) (l .at) (a .n - l .i) (c .before .before .gate-refusal .result) (omega arith) (c .before .before .gate-refusal .ensures) (c .if1 .taken)
     ∙ l .inv .2
 
 loop-again : tie.Need-loop-again Inv-loop μ-loop
-loop-again c = let l = c .before .before .before .loop in
-    let a = c .before .before .before .before .before .args in
+loop-again c = let l = c .before .before .before .before .loop in
+    let a = c .before .before .before .before .before .before .args in
     let less : a .n - (l .i + 1) ≡ a .n - l .i - 1 = omega arith in (
       omega arith,
       omega arith,
       ap (listRefusal (a .distance) (drop (l .at + gateBytes) (a .list .now))) less
-          ∙ list-go (a .distance) (a .list .now) (l .at) (a .n - l .i) (c .before .gate-refusal .result) (omega arith) (c .before .gate-refusal .ensures) (c .if1 .left)
+          ∙ list-go (a .distance) (a .list .now) (l .at) (a .n - l .i) (c .before .before .gate-refusal .result) (omega arith) (c .before .before .gate-refusal .ensures) (c .if1 .left)
           ∙ l .inv .2,
     )
 

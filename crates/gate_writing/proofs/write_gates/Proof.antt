@@ -4,25 +4,26 @@ use lib.ListN.{length}
 use native.Mathlib.Omega.{arith}
 use Rattle.gates.specs.Gates.{distanceWidth}
 use Rattle.gate_writing.specs.Writing.{mostGates}
+use Rattle.framing.proofs.RefusalLaws.{same-number}
 use Rattle.gate_writing.proofs.WritingLaws.{Listed, listed, write-refused, write-accepted}
 use borrow.Author.Needs.{needs}
 use Rattle.gate_writing.proofs.write_gates.Statement.{statement}
 use Rattle.gate_writing.proofs.write_gates.Tie as tie
 
-taken : (c : tie.Else1) → Listed distanceWidth mostGates (c .before .before .before .before .args .list .now) (length (c .before .before .before .before .args .out .now))
-taken c = listed distanceWidth mostGates (c .before .before .before .before .args .list .now) (length (c .before .before .before .before .args .out .now)) (sym (c .before .write-refusal .ensures) ∙ c .if1 .left)
+taken : (c : tie.Else1) → Listed distanceWidth mostGates (c .before .before .before .before .before .args .list .now) (length (c .before .before .before .before .before .args .out .now))
+taken c = listed distanceWidth mostGates (c .before .before .before .before .before .args .list .now) (length (c .before .before .before .before .before .args .out .now)) (sym (same-number (c .before .before .write-refusal .ensures)) ∙ c .if1 .left)
 
 returns : tie.Need-returns
-returns c = let a = c .before .before .before .before .args in
-    write-refused (a .list .now) (a .out .now) (c .before .write-refusal .result) (c .before .write-refusal .ensures) (c .if1 .taken)
+returns c = let a = c .before .before .before .before .before .args in
+    write-refused (a .list .now) (a .out .now) (c .before .before .write-refusal .result) (c .before .before .write-refusal .ensures) (c .if1 .taken)
 
 put-packet-requires : tie.Need-put-packet-requires
 put-packet-requires c κs = let g = taken (c .before) in
     omega arith
 
 returns-2 : tie.Need-returns-2
-returns-2 c = let a = c .before .before .before .before .before .before .before .before .args in
-    let refusal = c .before .before .before .before .before .write-refusal in
+returns-2 c = let a = c .before .before .before .before .before .before .before .before .before .args in
+    let refusal = c .before .before .before .before .before .before .write-refusal in
     let made = c .before .before .put-packet in
     write-accepted (a .list .now) (a .out .now) (refusal .result) (refusal .ensures) (c .before .before .before .before .if1 .left) (made .result) (made .last .0) (made .ensures .0) (made .ensures .1)
 
