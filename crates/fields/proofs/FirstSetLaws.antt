@@ -67,23 +67,7 @@ first-of s p (suc w) h = of (first-of s (suc p) w) (ℕ-discrete (bitAt s p) 1)
         let z : bitAt s p ≡ 0 = bit-zero s p ne in
         subst (FirstOf s p (suc w)) (passed s p w ne) (found-behind s p w _ z (more (omega (arith, behind-zero s p w z))))
 
--- ---- where it ends
-
-module _ (s : List ℕ) (p w : ℕ) where
-  -- one step of it
-  steps : (P : ℕ → Type 0) → P p → P (firstSet s (suc p) w) → P (firstSet s p (suc w))
-  steps P here further = of (ℕ-discrete (bitAt s p) 1)
-    where
-      of : Dec (bitAt s p ≡ 1) → P (firstSet s p (suc w))
-      of (yes e) = subst P (found s p w e) here
-      of (no ne) = subst P (passed s p w ne) further
-
--- it does not leave the bits that are searched
-pub first-le : (s : List ℕ) (p w : ℕ) → firstSet s p w ≤ p + w
-first-le s p zero = omega (arith, nothing-left s p)
-first-le s p (suc w) = steps s p w (λ q. q ≤ p + suc w) (omega arith) (omega (arith, first-le s (suc p) w))
-
--- and hangs on their bytes alone
+-- it hangs on the bytes of the bits that are searched alone
 pub first-front : (s : List ℕ) (p w n : ℕ) → p + w ≤ 8 * n → firstSet (take n s) p w ≡ firstSet s p w
 first-front s p zero n h = nothing-left (take n s) p ∙ sym (nothing-left s p)
 first-front s p (suc w) n h = of (first-front s (suc p) w n (omega arith)) (ℕ-discrete (bitAt s p) 1)

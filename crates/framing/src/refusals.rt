@@ -6,7 +6,7 @@ ghost use Rattle.framing.specs.Refusals.{notAllowed as fieldNotAllowed, 
 // A ground that holds, or none.
 pub struct Refusal {
     pub number: u32,
-    pub place: u32,
+    pub place: usize,
 }
 
 // The number of no refusal.
@@ -72,14 +72,14 @@ pub const TOO_WIDE: Refusal = Refusal {
 };
 
 // a field whose value is not allowed, which starts at bit `place`
-pub fn not_allowed(place: u32) -> Refusal
+pub fn not_allowed(place: usize) -> Refusal
     ensures { λ r. ⌜ r ≡ fieldNotAllowed place ⌝ }
 {
     Refusal { number: 4, place }
 }
 
 // padding that is not zero, of which bit `place` is the first that is set
-pub fn padding_set(place: u32) -> Refusal
+pub fn padding_set(place: usize) -> Refusal
     ensures { λ r. ⌜ r ≡ bitSet place ⌝ }
 {
     Refusal { number: 5, place }

@@ -1,12 +1,13 @@
 -- The steps of a gate read, which Reading.antt says whole: what is judged before the gates are loaded, the gates as one number each, and what is
 -- judged behind them.
-use Prim.Native.Nat.{ℕ, _/_, _%_}
+use Prim.Native.Nat.{ℕ, _-_, _/_, _%_}
 use mathlib.Core.List.{List, [], _∷_, _++_}
+use lib.Seq.{slice}
 use Rattle.numbers.specs.Pieces.{times, unpack}
 use Rattle.framing.specs.Refusals.{orElse}
 use Rattle.framing.specs.Framing.{headRefusal}
 use Rattle.framing.specs.declared.refusals.Refusal.{Refusal}
-use Rattle.gates.specs.Gates.{gateType, gateWidths}
+use Rattle.gates.specs.Gates.{gateType, gateWidths, bitsOf, rulesRefusal}
 use Rattle.gate_reading.specs.Reading.{lengthRefusal, paddingRefusal, roomRefusal}
 
 -- the header's rules, and the length that the count asks for
@@ -39,3 +40,7 @@ digits gate =
 unfoldable pub spread : List ℕ → List ℕ
 spread [] = []
 spread (gate ∷ more) = digits gate ++ spread more
+
+-- the rules on the gates from gate i on, of n that are one number each and start at bit 16
+abbrev pub rulesFrom : ℕ → List ℕ → ℕ → ℕ → Refusal
+rulesFrom distance kept n i = rulesRefusal distance (bitsOf distance i) (spread (slice i n kept)) (n - i)

@@ -5,21 +5,21 @@ use framing::refusals;
 use framing::refusals::Refusal;
 ghost use mathlib.Core.Path.{_≡_};
 ghost use mathlib.Core.List.{[], _∷_};
-ghost use Prim.Native.Nat.{_+_, _*_, _≤_};
-ghost use lib.ListN.{length};
+ghost use Prim.Native.Nat.{_+_, _*_, _≤_, _<_};
+ghost use lib.ListN.{length, getD};
 ghost use lib.Seq.{sets, slice};
 ghost use Rattle.numbers.specs.Fields.{field};
 ghost use Rattle.numbers.specs.Pieces.{times, unpack};
 ghost use Rattle.framing.specs.Refusals.{orElse, unlessRefused};
 ghost use Rattle.gates.specs.Gates.{gateBytes, gateBits, gateRefusal, rulesRefusal};
 ghost use Rattle.gate_reading.specs.Reading.{readAnswer, readInto, refusedFor};
-ghost use Rattle.gate_reading.specs.Steps.{shapeRefusal, firstGates, endRefusal, digits, spread};
+ghost use Rattle.gate_reading.specs.Steps.{shapeRefusal, firstGates, endRefusal, digits, spread, rulesFrom};
 
 // What a gate read answers: 0 with the gates and the bytes of the sub-packet, or a refusal's number and place with zeros.
 #[repr(C)]
 pub struct GatesRead {
     pub answer: u32,
-    pub place: u32,
+    pub place: usize,
     pub gates: usize,
     pub bytes: usize,
 }
@@ -75,23 +75,37 @@ fn gate_refusal(gate: u64, distance: u8) -> Refusal
     gates::gate_rules(distance, number, suffix, class, whistle)
 }
 
-// The first refusal of n gates from bit 16 on.
-fn rules_refusal(kept: &[u64], distance: u8, n: usize) -> Refusal
-    requires { ⌜ (distance ≤ 15) × (n ≤ 31) × (n ≤ length (now kept)) ⌝ }
-    ensures { λ r. ⌜ r ≡ rulesRefusal distance 16 (spread (slice 0 n (now (kept .entry)))) n ⌝ }
+// The first of n gates that is refused, or n. Only a number is asked for here, so that the compiler need not tell the fields apart.
+fn first_refused(kept: &[u64], distance: u8, n: usize) -> usize
+    requires { ⌜ (n ≤ 31) × (n ≤ length (now kept)) ⌝ }
+    ensures { λ r. ⌜ (r ≤ n) × (rulesFrom distance (now (kept .entry)) n r ≡ rulesRefusal distance 16 (spread (slice 0 n (now (kept .entry)))) n) ⌝ }
+    ensures { λ r. ⌜ (r < n → gateRefusal distance (digits (getD (now (kept .entry)) r 0)) .number ≡ 0 → ⊥) ⌝ }
 {
     let mut i = 0;
     while i < n {
         let refusal = gate_refusal(kept[i], distance);
         if refusal.number != refusals::ACCEPTED {
-            return Refusal {
-                number: refusal.number,
-                place: gates::bits_of(distance, i as u32) as u32 + refusal.place,
-            };
+            return i;
         }
         i += 1;
     }
-    refusals::NONE
+    i
+}
+
+// The first refusal of n gates from bit 16 on.
+fn rules_refusal(kept: &[u64], distance: u8, n: usize) -> Refusal
+    requires { ⌜ (n ≤ 31) × (n ≤ length (now kept)) ⌝ }
+    ensures { λ r. ⌜ r ≡ rulesRefusal distance 16 (spread (slice 0 n (now (kept .entry)))) n ⌝ }
+{
+    let i = first_refused(kept, distance, n);
+    if i == n {
+        return refusals::NONE;
+    }
+    let refusal = gate_refusal(kept[i], distance);
+    Refusal {
+        number: refusal.number,
+        place: gates::bits_of(distance, i as u32) + refusal.place,
+    }
 }
 
 // The refusal that a gate sub-packet of n gates, read into `room` bytes, gets behind the gates.
@@ -102,7 +116,7 @@ fn end_refusal(s: &[u8], distance: u8, n: usize, room: usize) -> Refusal
     let bits = gates::bits_of(distance, n as u32);
     let end = 8 * ((bits + 7) / 8);
     if 0 < fields::read_field(s, bits, end - bits) {
-        return refusals::padding_set(search::first_set(s, bits, end) as u32);
+        return refusals::padding_set(search::first_set(s, bits, end));
     }
     if room < gates::GATE_BYTES * n {
         return refusals::NO_ROOM;

@@ -34,11 +34,11 @@ const LAST_CLASS: u32 = 6;
 const LAST_WHISTLE: u32 = 2;
 
 // Where the judged fields behind the number start, counted from the end of the distance.
-const SUFFIX_AT: u32 = 10;
+const SUFFIX_AT: usize = 10;
 
-const CLASS_AT: u32 = 14;
+const CLASS_AT: usize = 14;
 
-const WHISTLE_AT: u32 = 18;
+const WHISTLE_AT: usize = 18;
 
 // The count of gates that the sub-packet says: the 5 lowest digits of the header's 16.
 pub fn count_of(s: &[u8]) -> usize
@@ -65,7 +65,7 @@ pub fn bits_of(distance: u8, n: u32) -> usize
 pub fn gate_rules(distance: u8, number: u32, suffix: u32, class: u32, whistle: u32) -> Refusal
     ensures { λ r. ⌜ r ≡ gateRules distance number suffix class whistle ⌝ }
 {
-    let number_at = distance as u32;
+    let number_at = distance as usize;
     if number < 1 {
         return refusals::not_allowed(number_at);
     }

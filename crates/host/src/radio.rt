@@ -14,7 +14,7 @@ ghost use Rattle.host.specs.Frame.{frameAnswer};
 #[repr(C)]
 pub struct FrameAnswer {
     pub answer: u32,
-    pub place: u32,
+    pub place: usize,
     pub offset: usize,
     pub length: usize,
 }

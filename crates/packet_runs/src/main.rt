@@ -38,7 +38,7 @@ fn run_frame(s: &[u8]) {
     let refusal = framing::frame_refusal(s);
     let sub = framing::frame(s);
     print_kind(1, refusal.number);
-    print_number(refusal.place as usize);
+    print_number(refusal.place);
     print_number(sub.len());
     print_bytes(sub);
     end_line();
@@ -47,7 +47,7 @@ fn run_frame(s: &[u8]) {
 fn run_read(s: &[u8], out: &mut [u8]) {
     let read = gate_reading::read_gates(s, out);
     print_kind(2, read.answer);
-    print_number(read.place as usize);
+    print_number(read.place);
     print_number(read.gates);
     print_number(read.bytes);
     print_bytes(out);

@@ -4,7 +4,6 @@ use mathlib.Core.Path.{_≡_, ap, _∙_}
 use native.Mathlib.Omega.{arith}
 use Rattle.numbers.specs.Fields.{field}
 use Rattle.fields.specs.FirstSet.{firstSet}
-use Rattle.fields.proofs.FirstSetLaws.{first-le}
 use Rattle.framing.specs.Refusals.{paddingSet}
 use Rattle.framing.proofs.RefusalLaws.{below, not-below, last-not-below, last-below}
 use Rattle.gates.specs.Gates.{gateBytes, bitsOf, paddingBits}
@@ -30,11 +29,6 @@ first-eq c =
     c .first-set .ensures
     ∙ ap (λ (b : ℕ). firstSet (c .before .before .before .before .before .args .s .now) b (8 * ((b + 7) / 8) - b)) (c .before .before .before .bits-of .ensures .0)
 
-cast-padding-set : tie.Need-cast-padding-set
-cast-padding-set c =
-    let bits : ℕ = c .before .before .before .bits-of .result in
-    omega (arith, c .first-set .ensures, first-le (c .before .before .before .before .before .args .s .now) bits (8 * ((bits + 7) / 8) - bits))
-
 returns : tie.Need-returns
 unfolding endRefusal
 returns c =
@@ -56,4 +50,4 @@ end-refusal-spec =
     tie.close
     (tie.spec
     (λ c. search needs) (λ c κs. search needs) (λ c. search needs) (λ c. search needs) (λ c. search needs) (λ c κs. search needs)
-    (λ c κs. search needs) cast-padding-set (λ c κs. search needs) returns (λ c. search needs) returns-2 returns-3)
+    (λ c κs. search needs) (λ c κs. search needs) returns (λ c. search needs) returns-2 returns-3)
