@@ -1,11 +1,42 @@
-/* A small host: two trains are registered and move, one gets an authority, an SOS limits it, and a step back takes the SOS
- * back. README says how to build and run it. */
+/* A small host: gates are read, and a refusal is said in words; two trains are registered and move, one gets an authority, an SOS
+ * limits it, and a step back takes the SOS back. README says how to build and run it. */
 #include "../include/kavach_bench.h"
 #include <stdio.h>
 #include <stdlib.h>
 #include <string.h>
 
 static kb_session bench;
+
+/* The field of a gate that starts so many bits behind the gate's first. */
+static const char *gate_field(size_t at)
+{
+    switch (at) {
+    case KB_NUMBER_AT: return "number";
+    case KB_SUFFIX_AT: return "suffix";
+    case KB_CLASS_AT: return "class";
+    case KB_WHISTLING_TYPE_AT: return "whistling type";
+    default: return "?";
+    }
+}
+
+/* Reads a gate sub-packet, and says what it has or where it broke. Gates are counted from 1, as people do. */
+static void print_gates(const uint8_t *packet, size_t length)
+{
+    uint8_t gates[KB_MOST_GATES * KB_GATE_SIZE];
+    kb_gates_read read = kb_read_gates(packet, length, gates, sizeof gates);
+    size_t bit = read.place - KB_FIRST_GATE_AT;
+
+    if (read.answer != KB_ACCEPTED)
+        printf("refused %u at bit %u: ", (unsigned)read.answer, (unsigned)read.place);
+    switch (read.answer) {
+    case KB_ACCEPTED: printf("gates %u, the first at %u m\n", (unsigned)read.gates, (unsigned)(gates[0] * 256 + gates[1])); break;
+    case KB_TYPE: printf("the type is not that of gates\n"); break;
+    case KB_LENGTH: printf("the %s\n", read.place == KB_LENGTH_AT ? "length is below 2" : "count does not fit the length"); break;
+    case KB_FIELD: printf("gate %u, its %s\n", (unsigned)(bit / KB_GATE_BITS + 1), gate_field(bit % KB_GATE_BITS)); break;
+    case KB_PADDING: printf("a bit of the padding is set\n"); break;
+    default: printf("bytes are missing\n"); break;
+    }
+}
 
 /* Prints an answer, and gives it on. */
 static kb_answer told(const char *what, kb_answer given)
@@ -53,13 +84,16 @@ static void print_trains(void)
 
 int main(void)
 {
-    /* One gate: 650 m, number 12, suffix a, manned, class B1, whistling, type 0. */
-    static const uint8_t packet[] = {0x30, 0xE1, 0x05, 0x14, 0x06, 0x12, 0x80};
-    uint8_t gates[KB_MOST_GATES * KB_GATE_SIZE];
-    kb_gates_answer read = kb_read_gates(packet, sizeof packet, gates, sizeof gates);
+    /* One gate: 650 m, number 12, suffix a, manned, class B1, whistling, type 0. Then the same with the last bit set, which is
+     * padding; and three gates, of which the third has a suffix of 7. */
+    static const uint8_t sound[] = {0x30, 0xE1, 0x05, 0x14, 0x06, 0x12, 0x80};
+    static const uint8_t padded[] = {0x30, 0xE1, 0x05, 0x14, 0x06, 0x12, 0x81};
+    static const uint8_t third[] = {0x32, 0x03, 0x05, 0x14, 0x06, 0x12, 0x81, 0x5E, 0x00, 0xD1, 0x60, 0x43, 0x30, 0x1D, 0xEC, 0x00};
     uint32_t rear, ahead;
 
-    printf("gates %u, the first at %u m\n", (unsigned)read.gates, (unsigned)(gates[0] * 256 + gates[1]));
+    print_gates(sound, sizeof sound);
+    print_gates(padded, sizeof padded);
+    print_gates(third, sizeof third);
     printf("frame age %u\n", (unsigned)kb_frame_age(20, 11).age);
 
     accepted("start", kb_start(KB_LEND(&bench)));

@@ -7,14 +7,25 @@
  * host with several threads keeps them apart by a lock of its own.
  *
  * ANSWERS. Every answer has the field `answer`: 0 (KB_ACCEPTED), or the number of the one reason for a refusal (enum
- * kb_reason). A refusal gives zeros in all other fields (kb_run_record says which it keeps) and CHANGES NOTHING: neither the
- * session nor any lent buffer.
+ * kb_reason). A refusal gives zeros in all other fields (but for a `place`, and kb_run_record says which it keeps) and CHANGES
+ * NOTHING: neither the session nor any lent buffer.
  * Where several reasons hold, the answer is the first in the order in which the call lists them here. docs/ANSWERS.md says of
  * each reason what to do about it.
  * Numbers are 32 bits wide and may be any: what is out of range is refused, never cut. A ticket of 65,537 is not ticket 1.
  * BUT C CONVERTS A WIDER OR A SIGNED NUMBER BEFORE THE CALL, where the library cannot see it: of 64 bits the upper half is
  * cut, so that 4,294,967,303 is loco 7, and -1 is 4,294,967,295, which is KB_NONE. Judge such numbers first; gcc shows them
  * by -Wconversion -Wsign-conversion.
+ *
+ * PLACES. A refused kb_frame or kb_read_gates also tells in `place` where it broke: the position of the first bit of the field
+ * at fault, counted from the start of the sub-packet, whose bit 0 is the top bit of its first byte.
+ *   answer 2: the type, 0
+ *   answer 3: the length where it is below 2, 4; the count where the length is not the one for it, 11
+ *   answer 4: the first field that is not allowed: gate by gate, and in a gate number, suffix, class, whistling type
+ *   answer 5: the first bit of the padding that is set
+ *   answer 1, and an accepted call: no field is at fault, 0
+ * FROM A PLACE TO A FIELD, for answer 4: the gate is (place - 16) / 35, counted from 0, and what is left, (place - 16) % 35, is 15
+ * for its number, 25 for its suffix, 29 for its class, 33 for its whistling type. The names for these numbers stand below
+ * (KB_FIRST_GATE_AT and the others), and examples/host.c says a place in words. kb_write_gates tells no place.
  *
  * BUFFERS. A buffer is a pointer and its length in bytes, and that many bytes must be there: the library cannot see a length
  * that lies. A buffer that a call changes must not overlap another buffer of the same call. Nothing before a buffer's start
@@ -102,6 +113,16 @@ typedef struct kb_session {
 #define KB_PACKET_SIZE 125
 #define KB_LONGEST_RECORD 101
 
+/* Bit positions: of length, count and first gate in a sub-packet; the bits of a gate; and of its judged fields in a gate. */
+#define KB_LENGTH_AT 4
+#define KB_COUNT_AT 11
+#define KB_FIRST_GATE_AT 16
+#define KB_GATE_BITS 35
+#define KB_NUMBER_AT 15
+#define KB_SUFFIX_AT 25
+#define KB_CLASS_AT 29
+#define KB_WHISTLING_TYPE_AT 33
+
 /* What most calls answer; each call says what its three numbers are. */
 typedef struct kb_answer {
     uint32_t answer;
@@ -114,7 +135,7 @@ typedef struct kb_answer {
 
 typedef struct kb_frame_answer {
     uint32_t answer;
-    uint32_t place; /* of a refusal: the first bit of the field at fault */
+    size_t place;  /* of a refusal: the first bit of the field at fault; see PLACES above */
     size_t offset; /* of the payload within the lent bytes: 0 */
     size_t length; /* the payload's bytes: the whole sub-packet, header included */
 } kb_frame_answer;
@@ -125,9 +146,9 @@ kb_frame_answer kb_frame(const uint8_t *bytes, size_t bytes_len);
 
 typedef struct kb_gates_read {
     uint32_t answer;
-    uint32_t place; /* of a refusal: the first bit of the field at fault */
-    size_t gates;
-    size_t bytes; /* bytes of the sub-packet */
+    size_t place; /* of a refusal: the first bit of the field at fault; see PLACES above */
+    size_t gates; /* gates read */
+    size_t bytes; /* bytes of the sub-packet that was read */
 } kb_gates_read;
 
 /* Reads the gate sub-packet that `bytes` begins with into `gates`, and ignores what follows it. A gate takes KB_GATE_SIZE bytes
@@ -140,8 +161,8 @@ kb_gates_read kb_read_gates(const uint8_t *bytes, size_t bytes_len, uint8_t *gat
 
 typedef struct kb_gates_written {
     uint32_t answer;
-    size_t gates;
-    size_t bytes; /* bytes of the sub-packet */
+    size_t gates; /* gates written */
+    size_t bytes; /* bytes of the sub-packet that was written */
 } kb_gates_written;
 
 /* Writes all of `gates`, laid out as kb_read_gates leaves them, as one sub-packet to the start of `bytes`. KB_PACKET_SIZE bytes

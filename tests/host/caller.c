@@ -84,7 +84,7 @@ static void put_answer(kb_answer a)
 static void put_read(kb_gates_read a)
 {
     reply.words[0] = a.answer;
-    reply.words[1] = a.place;
+    reply.words[1] = word(a.place);
     reply.words[2] = word(a.gates);
     reply.words[3] = word(a.bytes);
 }
@@ -99,7 +99,7 @@ static void put_written(kb_gates_written a)
 static void put_frame(kb_frame_answer a)
 {
     reply.words[0] = a.answer;
-    reply.words[1] = a.place;
+    reply.words[1] = word(a.place);
     reply.words[2] = word(a.offset);
     reply.words[3] = word(a.length);
 }

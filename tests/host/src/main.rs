@@ -18,12 +18,13 @@ mod wire;
 
 use bench_model::header::defined;
 use bench_model::modes::FLAGS;
-use bench_model::packets::{places, GATE_BYTES};
+use bench_model::packets::{places, COUNT, GATE_BITS, GATE_BYTES, HEADER_BITS, LENGTH};
 use bench_model::recording::LONGEST;
 use bench_model::session::{ROWS, SLOTS};
 use calls::Calls;
 use cases::Case;
 use expected::Expected;
+use packets::JUDGED;
 use std::collections::{BTreeMap, BTreeSet};
 use std::io::{BufReader, Read, Write};
 use std::process::{ChildStdin, ChildStdout, Command, ExitCode, Stdio};
@@ -49,6 +50,14 @@ const _: () = assert!(
         && defined("#define KB_MOST_GATES ") == packets::MOST_GATES
         && defined("#define KB_PACKET_SIZE ") == packets::PACKET as u32
         && defined("#define KB_LONGEST_RECORD ") == LONGEST as u32
+        && defined("#define KB_LENGTH_AT ") == LENGTH as u32
+        && defined("#define KB_COUNT_AT ") == COUNT as u32
+        && defined("#define KB_FIRST_GATE_AT ") == HEADER_BITS as u32
+        && defined("#define KB_GATE_BITS ") == GATE_BITS as u32
+        && defined("#define KB_NUMBER_AT ") == JUDGED[0].0 as u32
+        && defined("#define KB_SUFFIX_AT ") == JUDGED[1].0 as u32
+        && defined("#define KB_CLASS_AT ") == JUDGED[2].0 as u32
+        && defined("#define KB_WHISTLING_TYPE_AT ") == JUDGED[3].0 as u32
 );
 
 /// Makes the calls and sends them, each batch first to whoever compares.

@@ -3,15 +3,13 @@
 use crate::calls::flags_for;
 use crate::random::Random;
 use crate::wire::{Call, Kind};
-use bench_model::packets::{write_gates, GATE_BYTES};
+use bench_model::packets::{write_gates, COUNT, GATE_BITS, GATE_BYTES, HEADER_BITS, LENGTH};
 
 pub const MOST_GATES: u32 = 28;
 pub const PACKET: usize = 125;
 
-const HEADER_BITS: usize = 16;
-const GATE_BITS: usize = 35;
 /// The first bits in a gate of the fields that have a value that is not allowed, and their widths. All ones are wrong in each.
-const JUDGED: [(usize, usize); 4] = [NUMBER, (25, 3), (29, 3), (33, 2)];
+pub const JUDGED: [(usize, usize); 4] = [NUMBER, (25, 3), (29, 3), (33, 2)];
 /// Zero is wrong here, too.
 const NUMBER: (usize, usize) = (15, 10);
 
@@ -173,14 +171,14 @@ fn pad(random: &mut Random, gates: usize, packet: &mut [u8]) {
 fn damage_header(random: &mut Random, gates: usize, packet: &mut [u8]) {
     match random.below(8) {
         0 | 1 => put(packet, 0, 4, random.below(16)),
-        2 | 3 => put(packet, 4, 7, random.below(2)),
-        4 => put(packet, 4, 7, random.below(128)),
-        5 | 6 => put(packet, 11, 5, random.below(32)),
+        2 | 3 => put(packet, LENGTH, 7, random.below(2)),
+        4 => put(packet, LENGTH, 7, random.below(128)),
+        5 | 6 => put(packet, COUNT, 5, random.below(32)),
         // the header for fewer gates, so that padding stands where a gate does
         _ => {
             let fewer = random.below(gates as u32 + 1);
-            put(packet, 4, 7, (HEADER_BITS as u32 + GATE_BITS as u32 * fewer).div_ceil(8));
-            put(packet, 11, 5, fewer);
+            put(packet, LENGTH, 7, (HEADER_BITS as u32 + GATE_BITS as u32 * fewer).div_ceil(8));
+            put(packet, COUNT, 5, fewer);
         }
     }
 }

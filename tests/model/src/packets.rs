@@ -6,10 +6,10 @@ const GATE_TYPE: u32 = 3;
 const MOST_GATES: usize = 28;
 // The first bits of the header's fields: type 4 bits, length 7, and in a gate sub-packet the count 5.
 const TYPE: usize = 0;
-const LENGTH: usize = 4;
-const COUNT: usize = 11;
-const HEADER_BITS: usize = 16;
-const GATE_BITS: usize = 35;
+pub const LENGTH: usize = 4;
+pub const COUNT: usize = 11;
+pub const HEADER_BITS: usize = 16;
+pub const GATE_BITS: usize = 35;
 /// A gate outside the sub-packet.
 pub const GATE_BYTES: usize = 9;
 

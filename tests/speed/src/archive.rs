@@ -10,7 +10,7 @@ const SESSION: usize = SESSION_SIZE as usize;
 #[derive(Clone, Copy, Default)]
 pub struct FrameAnswer {
     pub answer: u32,
-    pub place: u32,
+    pub place: usize,
     pub offset: usize,
     pub length: usize,
 }
@@ -19,7 +19,7 @@ pub struct FrameAnswer {
 #[derive(Clone, Copy, Default)]
 pub struct GatesRead {
     pub answer: u32,
-    pub place: u32,
+    pub place: usize,
     pub gates: usize,
     pub bytes: usize,
 }
