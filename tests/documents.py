@@ -1,7 +1,7 @@
 #!/usr/bin/env python3
 """Holds the documents to what they speak of: tests/documents.py
 
-The answer numbers of ANSWERS.md are those of the C header; the examples of README.md and RECORDING.md are what the samples and tools/record
+The answer numbers of ANSWERS.md, and the bits of a gate's fields, are those of the C header; the examples of README.md and RECORDING.md are what the samples and tools/record
 give; README.md has every crate, and samples/README.md every sample; every link leads to a file. The exit status is 1 where something is not so.
 """
 
@@ -36,6 +36,14 @@ def answers():
     for line in lines:
         if line[0] != "0" and (len(line) != 4 or not all(line)):
             yield f"ANSWERS.md does not say of {line} by whom, when, and what to do"
+
+
+def places():
+    """Where a gate's judged fields start is the same in ANSWERS.md as in the header."""
+    defined = re.findall(r"^#define KB_(NUMBER|SUFFIX|CLASS|WHISTLING_TYPE)_AT (\d+)$", text(ROOT / "include" / "kavach_bench.h"), re.MULTILINE)
+    told = [(line[0].upper().replace(" ", "_"), line[1]) for line in table(DOCS / "ANSWERS.md") if len(line) == 3 and line[1].isdigit()]
+    if not set(defined) <= set(told) or len(defined) != 4:
+        yield "ANSWERS.md and the header have other bits for the fields of a gate"
 
 
 def first_sample():
@@ -100,7 +108,7 @@ def links():
 
 
 def main():
-    wrong = [problem for part in (answers, first_sample, kinds, commands, lists, links) for problem in part()]
+    wrong = [problem for part in (answers, places, first_sample, kinds, commands, lists, links) for problem in part()]
     print(*wrong, f"documents: {len(wrong)} differences", sep="\n")
     return 1 if wrong else 0
 

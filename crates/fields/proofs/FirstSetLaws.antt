@@ -51,7 +51,7 @@ found-behind : (s : List ℕ) (p w q : ℕ) → bitAt s p ≡ 0 → FirstOf s (s
 found-behind s p w q e f = record {
   from = omega (arith, f .from);
   before = omega (arith, f .before);
-  set = f .set;
+  is-set = f .is-set;
   zeros = λ k h l. ⊎-elim (λ (same : p ≡ k). ap (bitAt s) (sym same) ∙ e) (λ (after : p < k). f .zeros k (omega arith) l) (eq-or-lt-of-le h);
 }
 
@@ -62,7 +62,7 @@ first-of s p (suc w) h = of (first-of s (suc p) w) (ℕ-discrete (bitAt s p) 1)
     of : (0 < field s (suc p) w → FirstOf s (suc p) w (firstSet s (suc p) w)) → Dec (bitAt s p ≡ 1) → FirstOf s p (suc w) (firstSet s p (suc w))
     of more (yes e) =
         subst (FirstOf s p (suc w)) (found s p w e)
-        (record { from = omega arith; before = omega arith; set = e; zeros = λ k h l. absurd (omega arith) })
+        (record { from = omega arith; before = omega arith; is-set = e; zeros = λ k h l. absurd (omega arith) })
     of more (no ne) =
         let z : bitAt s p ≡ 0 = bit-zero s p ne in
         subst (FirstOf s p (suc w)) (passed s p w ne) (found-behind s p w _ z (more (omega (arith, behind-zero s p w z))))

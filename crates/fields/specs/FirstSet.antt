@@ -14,5 +14,5 @@ firstSet s p (suc w) = cond (eqb (bitAt s p) 1) p (firstSet s (suc p) w)
 pub record FirstOf (s : List ℕ) (p w q : ℕ) : Type 0 where
   pub from : p ≤ q
   pub before : q < p + w
-  pub set : bitAt s q ≡ 1
+  pub is-set : bitAt s q ≡ 1
   pub zeros : (k : ℕ) → p ≤ k → k < q → bitAt s k ≡ 0

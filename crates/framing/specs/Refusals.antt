@@ -1,12 +1,9 @@
 -- The grounds on which a sub-packet is refused, and how a chain of grounds gives one refusal. A ground has its number (document 01,
--- "Sub-packets") and its place (document 02, T-03): the first bit of the field at fault, counted from the start of the sub-packet, and 0 where no
--- field is at fault. Number 0 is no refusal.
+-- "Sub-packets") and its place (document 02, T-03): the first bit of the field at fault, counted from the start of the sub-packet. Number 0 is no
+-- refusal.
 use Prim.Native.Nat.{ℕ, zero, suc, _+_}
 use mathlib.Core.Bool.{Bool, true, false}
 use Rattle.framing.specs.declared.refusals.Refusal.{Refusal}
-
-abbrev pub none : Refusal  -- no ground holds
-none = record { number = 0; place = 0 }
 
 abbrev pub typeAt : ℕ  -- where type, length and count start
 typeAt = 0
@@ -17,8 +14,14 @@ lengthAt = 4
 abbrev pub countAt : ℕ
 countAt = 11
 
+abbrev pub nowhere : ℕ  -- no field is at fault
+nowhere = 0
+
+abbrev pub none : Refusal  -- no ground holds
+none = record { number = 0; place = nowhere }
+
 abbrev pub tooShort : Refusal  -- fewer than 2 bytes
-tooShort = record { number = 1; place = 0 }
+tooShort = record { number = 1; place = nowhere }
 
 abbrev pub wrongType : Refusal  -- a type that does not exist, or not the one asked for
 wrongType = record { number = 2; place = typeAt }
@@ -27,7 +30,7 @@ abbrev pub lengthTooSmall : Refusal  -- a length below 2
 lengthTooSmall = record { number = 3; place = lengthAt }
 
 abbrev pub cutOff : Refusal  -- fewer bytes than the length says
-cutOff = record { number = 1; place = 0 }
+cutOff = record { number = 1; place = nowhere }
 
 abbrev pub lengthNotForCount : Refusal  -- a length that is not the one for the count of gates
 lengthNotForCount = record { number = 3; place = countAt }
@@ -39,18 +42,18 @@ abbrev pub paddingSet : ℕ → Refusal  -- padding that is not zero, of which b
 paddingSet p = record { number = 5; place = p }
 
 abbrev pub noRoom : Refusal  -- an output too small
-noRoom = record { number = 1; place = 0 }
+noRoom = record { number = 1; place = nowhere }
 
--- what is written has no place yet, so a writer's own grounds have none
+-- a writer judges no sub-packet, so its own grounds have no place
 
 abbrev pub notWholeGates : Refusal  -- gates outside a sub-packet that are not 9 bytes each
-notWholeGates = record { number = 3; place = 0 }
+notWholeGates = record { number = 3; place = nowhere }
 
 abbrev pub tooManyGates : Refusal  -- more gates than a sub-packet may have
-tooManyGates = record { number = 3; place = 0 }
+tooManyGates = record { number = 3; place = nowhere }
 
 abbrev pub tooWide : Refusal  -- a value too large for its field's width
-tooWide = record { number = 4; place = 0 }
+tooWide = record { number = 4; place = nowhere }
 
 -- a where there is no refusal, b where there is one
 unfoldable pub unlessRefused : {A : Type 0} → ℕ → A → A → A
@@ -72,4 +75,4 @@ movedBy p r = record { number = r .number; place = p + r .place }
 
 -- the refusal with its place untold
 abbrev pub untold : Refusal → Refusal
-untold r = record { number = r .number; place = 0 }
+untold r = record { number = r .number; place = nowhere }
