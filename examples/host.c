@@ -7,32 +7,38 @@
 
 static kb_session bench;
 
-/* The field of a gate that starts so many bits behind the gate's first. */
-static const char *gate_field(size_t at)
+/* Says which field of which gate starts so many bits behind the first gate's first. Gates are counted from 1, as people do. */
+static void print_field(size_t bit)
 {
-    switch (at) {
-    case KB_NUMBER_AT: return "number";
-    case KB_SUFFIX_AT: return "suffix";
-    case KB_CLASS_AT: return "class";
-    case KB_WHISTLING_TYPE_AT: return "whistling type";
-    default: return "?";
+    const char *field = "?";
+    switch (bit % KB_GATE_BITS) {
+    case KB_NUMBER_AT: field = "number"; break;
+    case KB_SUFFIX_AT: field = "suffix"; break;
+    case KB_CLASS_AT: field = "class"; break;
+    case KB_WHISTLING_TYPE_AT: field = "whistling type"; break;
     }
+    printf("gate %u, its %s\n", (unsigned)(bit / KB_GATE_BITS + 1), field);
 }
 
-/* Reads a gate sub-packet, and says what it has or where it broke. Gates are counted from 1, as people do. */
+/* Reads a gate sub-packet, and says the distance of each gate, or where it broke. */
 static void print_gates(const uint8_t *packet, size_t length)
 {
     uint8_t gates[KB_MOST_GATES * KB_GATE_SIZE];
     kb_gates_read read = kb_read_gates(packet, length, gates, sizeof gates);
-    size_t bit = read.place - KB_FIRST_GATE_AT;
+    size_t i;
 
-    if (read.answer != KB_ACCEPTED)
-        printf("refused %u at bit %u: ", (unsigned)read.answer, (unsigned)read.place);
+    if (read.answer == KB_ACCEPTED) {
+        printf("gates %u:", (unsigned)read.gates);
+        for (i = 0; i < read.gates; i++)
+            printf(" at %u m", (unsigned)(gates[i * KB_GATE_SIZE] * 256 + gates[i * KB_GATE_SIZE + 1]));
+        printf("\n");
+        return;
+    }
+    printf("refused %u at bit %u: ", (unsigned)read.answer, (unsigned)read.place);
     switch (read.answer) {
-    case KB_ACCEPTED: printf("gates %u, the first at %u m\n", (unsigned)read.gates, (unsigned)(gates[0] * 256 + gates[1])); break;
     case KB_TYPE: printf("the type is not that of gates\n"); break;
     case KB_LENGTH: printf("the %s\n", read.place == KB_LENGTH_AT ? "length is below 2" : "count does not fit the length"); break;
-    case KB_FIELD: printf("gate %u, its %s\n", (unsigned)(bit / KB_GATE_BITS + 1), gate_field(bit % KB_GATE_BITS)); break;
+    case KB_FIELD: print_field(read.place - KB_FIRST_GATE_AT); break;
     case KB_PADDING: printf("a bit of the padding is set\n"); break;
     default: printf("bytes are missing\n"); break;
     }

@@ -18,11 +18,11 @@
  *
  * PLACES. A refused kb_frame or kb_read_gates also tells in `place` where it broke: the position of the first bit of the field
  * at fault, counted from the start of the sub-packet, whose bit 0 is the top bit of its first byte.
- *   answer 2: the type, 0
- *   answer 3: the length where it is below 2, 4; the count where the length is not the one for it, 11
+ *   answer 2: 0, the type
+ *   answer 3: 4, the length, where it is below 2; 11, the count, where the length is not the one for it
  *   answer 4: the first field that is not allowed: gate by gate, and in a gate number, suffix, class, whistling type
  *   answer 5: the first bit of the padding that is set
- *   answer 1, and an accepted call: no field is at fault, 0
+ *   answer 1, and an accepted call: 0, since no field is at fault
  * FROM A PLACE TO A FIELD, for answer 4: the gate is (place - 16) / 35, counted from 0, and what is left, (place - 16) % 35, is 15
  * for its number, 25 for its suffix, 29 for its class, 33 for its whistling type. The names for these numbers stand below
  * (KB_FIRST_GATE_AT and the others), and examples/host.c says a place in words. kb_write_gates tells no place.
@@ -60,7 +60,8 @@
 extern "C" {
 #endif
 
-/* The numbers that `answer` may be. One number may stand for several reasons; the call tells them apart. */
+/* The numbers that `answer` may be. One number may stand for several reasons; the call tells them apart, and of a read that is
+ * refused with 3 its place. */
 enum kb_reason {
     KB_ACCEPTED = 0,
     /* Sub-packets. */
@@ -135,7 +136,7 @@ typedef struct kb_answer {
 
 typedef struct kb_frame_answer {
     uint32_t answer;
-    size_t place;  /* of a refusal: the first bit of the field at fault; see PLACES above */
+    size_t place;  /* of a refusal, the first bit of the field at fault (see PLACES above); 0 where accepted */
     size_t offset; /* of the payload within the lent bytes: 0 */
     size_t length; /* the payload's bytes: the whole sub-packet, header included */
 } kb_frame_answer;
@@ -146,7 +147,7 @@ kb_frame_answer kb_frame(const uint8_t *bytes, size_t bytes_len);
 
 typedef struct kb_gates_read {
     uint32_t answer;
-    size_t place; /* of a refusal: the first bit of the field at fault; see PLACES above */
+    size_t place; /* of a refusal, the first bit of the field at fault (see PLACES above); 0 where accepted */
     size_t gates; /* gates read */
     size_t bytes; /* bytes of the sub-packet that was read */
 } kb_gates_read;

@@ -1,8 +1,9 @@
 #!/usr/bin/env python3
 """Holds the documents to what they speak of: tests/documents.py
 
-The answer numbers of ANSWERS.md, and the bits of a gate's fields, are those of the C header; the examples of README.md and RECORDING.md are what the samples and tools/record
-give; README.md has every crate, and samples/README.md every sample; every link leads to a file. The exit status is 1 where something is not so.
+The answer numbers of ANSWERS.md, and the bits of a gate's fields, are those of the C header; the examples of README.md and RECORDING.md are
+what the samples and tools/record give; README.md has every crate, and samples/README.md every sample; every link leads to a file. The exit
+status is 1 where something is not so.
 """
 
 import pathlib

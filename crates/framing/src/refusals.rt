@@ -17,13 +17,13 @@ const LENGTH_AT: usize = 4;
 const COUNT_AT: usize = 11;
 
 // Where no field is at fault.
-const NOWHERE: usize = 0;
+pub const NOWHERE: usize = 0;
 
 // The number of no refusal.
 pub const ACCEPTED: u32 = 0;
 
 pub const NONE: Refusal = Refusal {
-    number: 0,
+    number: ACCEPTED,
     place: NOWHERE,
 };
 

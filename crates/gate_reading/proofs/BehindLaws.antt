@@ -8,11 +8,9 @@ use native.Mathlib.Decide.{ℕ-discrete}
 use native.Mathlib.Omega.{arith}
 use lib.Dec.{ltb, eqb}
 use lib.ListN.{length, take, drop}
-use Rattle.numbers.specs.Fields.{field}
 use Rattle.numbers.specs.Pieces.{times, unpack}
 use Rattle.numbers.proofs.FieldLaws.{field-front}
 use Rattle.numbers.proofs.PieceLaws.{unpack-front}
-use Rattle.fields.specs.FirstSet.{firstSet}
 use Rattle.fields.proofs.FirstSetLaws.{first-front}
 use Rattle.framing.specs.Refusals.{lengthNotForCount, paddingSet, noRoom, refuse, orElse, unlessRefused}
 use Rattle.framing.specs.Framing.{lengthOf}

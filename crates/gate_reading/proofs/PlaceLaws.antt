@@ -1,7 +1,7 @@
 -- WHERE A GATE READ SAYS THAT IT BROKE: what its number and its place say together, at any width of the distance.
 use mathlib.Core.Path.{_≡_, refl, sym, ap, subst, _∙_}
 use mathlib.Core.List.{List, [], _∷_}
-use mathlib.Core.Logic.{_⊎_, inl, inr, ⊎-elim}
+use mathlib.Core.Logic.{_⊎_, inl, inr}
 use Prim.Native.Nat.{ℕ, zero, suc, _+_, _*_, _/_, _%_, _^_, _≤_, _<_}
 use native.Mathlib.Nat.{div-one, mul-suc, mul-le-mul-left}
 use native.Mathlib.Decide.{ℕ-discrete}
@@ -11,12 +11,12 @@ use lib.ListN.{length}
 use Rattle.numbers.specs.Fields.{field}
 use Rattle.numbers.specs.Pieces.{times, unpack}
 use Rattle.numbers.proofs.WithinLaws.{field-within}
-use Rattle.fields.specs.FirstSet.{firstSet, FirstOf}
+use Rattle.fields.specs.FirstSet.{FirstOf}
 use Rattle.fields.proofs.FirstSetLaws.{first-of}
-use Rattle.framing.specs.Refusals.{typeAt, lengthAt, countAt, none, orElse, movedBy}
+use Rattle.framing.specs.Refusals.{lengthAt, countAt, none, orElse, movedBy}
 use Rattle.framing.specs.Framing.{lengthOf}
 use Rattle.framing.specs.declared.refusals.Refusal.{Refusal}
-use Rattle.framing.proofs.RefusalLaws.{same-number, orElse-go, orElse-stop, along, tested, tried, refuse-none, unless-none, unless-some}
+use Rattle.framing.proofs.RefusalLaws.{orElse-go, orElse-stop, along, tested, tried, unless-none, unless-some}
 use Rattle.framing.proofs.FramingLaws.{headed}
 use Rattle.framing.proofs.PlaceLaws.{HeadTold, no-field, head-told, head-zero, head-other, head-few}
 use Rattle.gates.specs.Gates.{countOf, gateType, distanceWidth, gateBits, bitsOf, sizeOf, paddingBits, lastNumber, lastSuffix, lastClass, lastWhistle, gateRules, gateRefusal, rulesRefusal}

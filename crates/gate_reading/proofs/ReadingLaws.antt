@@ -11,13 +11,12 @@ use lib.Seq.{sets, sets-eq, slice, slice-cons, take-at}
 use lib.Pow.{shr-mod, pow-mono}
 use Rattle.numbers.specs.Fields.{field}
 use Rattle.numbers.specs.Pieces.{total, times, unpack}
-use Rattle.framing.specs.Refusals.{none, noRoom, paddingSet, orElse, unlessRefused, movedBy}
+use Rattle.framing.specs.Refusals.{none, noRoom, orElse, unlessRefused, movedBy}
 use Rattle.framing.specs.declared.refusals.Refusal.{Refusal}
 use Rattle.framing.specs.Framing.{lengthOf}
 use Rattle.gates.specs.Gates.{countOf, gateType, distanceWidth, gateBytes, gateWidths, gateBits, bitsOf, sizeOf, paddingBits, gateRules, gateRefusal, rulesRefusal}
 use Rattle.gate_reading.specs.Reading.{gatesOf, paddingOf, bodyRefusal, readRefusal, readAnswer, readInto, readWith, refusedFor}
 use Rattle.gate_reading.specs.Steps.{shapeRefusal, firstGates, endRefusal, digits, spread}
-use Rattle.gate_reading.specs.declared.GatesRead.{GatesRead}
 use Rattle.numbers.proofs.FieldLaws.{field-add, field-lt}
 use Rattle.numbers.proofs.PieceLaws.{length-unpack, length-times, unpack-append, sets-append}
 use Rattle.numbers.proofs.WithinLaws.{cut, unpack-cut}

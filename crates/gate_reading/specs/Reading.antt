@@ -4,7 +4,7 @@ use mathlib.Core.{List.List, List._++_, Bool.not}
 use lib.{ListN.length, ListN.drop, Dec.ltb, Dec.eqb}
 use Rattle.numbers.specs.{Fields.field, Pieces.times, Pieces.unpack}
 use Rattle.fields.specs.FirstSet.{firstSet}
-use Rattle.framing.specs.Refusals.{lengthNotForCount, paddingSet, noRoom, refuse, orElse, unlessRefused}
+use Rattle.framing.specs.Refusals.{nowhere, lengthNotForCount, paddingSet, noRoom, refuse, orElse, unlessRefused}
 use Rattle.framing.specs.Framing.{lengthOf, headRefusal}
 use Rattle.framing.specs.declared.refusals.Refusal.{Refusal}
 use Rattle.gates.specs.Gates.{gateType, distanceWidth, gateBytes, gateWidths, countOf, bitsOf, sizeOf, paddingBits, rulesRefusal}
@@ -41,7 +41,7 @@ readRefusal distance s room = orElse (headRefusal s gateType gateType) (orElse (
 
 -- the answer where nothing refuses: the gates, and the bytes of the sub-packet
 abbrev pub readWith : ℕ → ℕ → GatesRead
-readWith gates bytes = record { answer = 0; place = 0; gates = gates; bytes = bytes }
+readWith gates bytes = record { answer = 0; place = nowhere; gates = gates; bytes = bytes }
 
 -- and of a refusal: its number and its place, no gates and zero bytes
 abbrev pub refusedFor : Refusal → GatesRead

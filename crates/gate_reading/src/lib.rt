@@ -205,7 +205,7 @@ pub fn read_gates(s: &[u8], out: &mut [u8]) -> GatesRead
     }
     GatesRead {
         answer: refusals::ACCEPTED,
-        place: 0,
+        place: refusals::NOWHERE,
         gates,
         bytes: framing::length_of(s),
     }

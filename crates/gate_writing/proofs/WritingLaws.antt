@@ -8,13 +8,13 @@ use native.Mathlib.Nat.{add-zero, add-assoc, mod-eq-of-lt}
 use native.Mathlib.Omega.{arith}
 use native.Mathlib.Numerals.{add-one, one-add}
 use borrow.Author.Tests.{lt-leb, le-leb, ltb-false}
-use lib.Dec.{ltb, leb}
+use lib.Dec.{leb}
 use lib.ListN.{length, getD, drop}
 use lib.Seq.{drop-at, drop-drop, getD-drop}
 use Rattle.numbers.specs.Fields.{put}
 use Rattle.numbers.specs.Pieces.{total, times, pack}
 use Rattle.numbers.specs.Numbers.{putNumber}
-use Rattle.framing.specs.Refusals.{none, notAllowed, tooWide, refuse, orElse, unlessRefused, untold}
+use Rattle.framing.specs.Refusals.{none, tooWide, refuse, orElse, unlessRefused, untold}
 use Rattle.framing.specs.declared.refusals.Refusal.{Refusal}
 use Rattle.gates.specs.Gates.{gateType, distanceWidth, gateBytes, gateWidths, gateBits, bitsOf, sizeOf, paddingBits, lastNumber, lastSuffix, lastClass, lastWhistle, gateRules, gateRefusal, rulesRefusal}
 use Rattle.gate_writing.specs.Writing.{mostGates, gatesIn, packetWidths, packetValues, written, widthsRefusal, listRefusal, writeRefusal, writtenWith, notWritten, writeAnswer, writeInto}

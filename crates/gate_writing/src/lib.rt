@@ -60,7 +60,7 @@ fn gate_refusal(list: &[u8], distance: u8, at: usize) -> Refusal
     );
     Refusal {
         number: rules.number,
-        place: 0,
+        place: refusals::NOWHERE,
     }
 }
 
@@ -118,14 +118,14 @@ fn put_gate(out: &mut [u8], p: usize, distance: u8, list: &[u8], at: usize)
     let class = (wide(list[at + 6]) % 8) as u64;
     let whistling = (wide(list[at + 7]) % 2) as u64;
     let whistle = (wide(list[at + 8]) % 4) as u64;
-    let place = far * gates::DISTANCE_WEIGHT + number * gates::NUMBER_WEIGHT;
+    let numbered = far * gates::DISTANCE_WEIGHT + number * gates::NUMBER_WEIGHT;
     let manned = suffix * gates::SUFFIX_WEIGHT + manning * gates::MANNING_WEIGHT;
     let whistled = class * gates::CLASS_WEIGHT + whistling * gates::WHISTLING_WEIGHT + whistle;
     fields::write_wide(
         out,
         p,
         gates::gate_bits(distance),
-        place + manned + whistled,
+        numbered + manned + whistled,
     );
 }
 

@@ -11,7 +11,7 @@ use Rattle.numbers.specs.Pieces.{total, times}
 use Rattle.framing.specs.Refusals.{none, notAllowed, refuse, orElse}
 use Rattle.framing.specs.declared.refusals.Refusal.{Refusal}
 use Rattle.framing.proofs.RefusalLaws.{tested, tried}
-use Rattle.gates.specs.Gates.{gateBytes, gateWidths, gateBits, bitsOf, numberAt, suffixAt, classAt, whistleAt, gateRules, rulesRefusal}
+use Rattle.gates.specs.Gates.{gateBytes, gateWidths, gateBits, bitsOf, gateRules, rulesRefusal}
 use Rattle.numbers.proofs.PieceLaws.{total-times, length-times}
 
 pub total-gate : (distance : ℕ) → 8 ≤ distance → total (gateWidths distance) ≡ gateBits distance

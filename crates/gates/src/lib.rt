@@ -33,12 +33,12 @@ const LAST_CLASS: u32 = 6;
 
 const LAST_WHISTLE: u32 = 2;
 
-// Where the judged fields behind the number start, counted from the end of the distance.
-const SUFFIX_AT: usize = 10;
+// How far behind the distance the judged fields start that come after the number.
+const SUFFIX_BEHIND: usize = 10;
 
-const CLASS_AT: usize = 14;
+const CLASS_BEHIND: usize = 14;
 
-const WHISTLE_AT: usize = 18;
+const WHISTLE_BEHIND: usize = 18;
 
 // The count of gates that the sub-packet says: the 5 lowest digits of the header's 16.
 pub fn count_of(s: &[u8]) -> usize
@@ -73,13 +73,13 @@ pub fn gate_rules(distance: u8, number: u32, suffix: u32, class: u32, whistle: u
         return refusals::not_allowed(number_at);
     }
     if LAST_SUFFIX < suffix {
-        return refusals::not_allowed(number_at + SUFFIX_AT);
+        return refusals::not_allowed(number_at + SUFFIX_BEHIND);
     }
     if LAST_CLASS < class {
-        return refusals::not_allowed(number_at + CLASS_AT);
+        return refusals::not_allowed(number_at + CLASS_BEHIND);
     }
     if LAST_WHISTLE < whistle {
-        return refusals::not_allowed(number_at + WHISTLE_AT);
+        return refusals::not_allowed(number_at + WHISTLE_BEHIND);
     }
     refusals::NONE
 }

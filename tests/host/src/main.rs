@@ -41,7 +41,7 @@ type Batch = Vec<(Call, Expected)>;
 /// must have met each place that a refused gate read can tell.
 const ANSWERS: [u32; 22] = [0, 1, 2, 3, 4, 5, 10, 11, 12, 13, 14, 15, 16, 17, 18, 19, 20, 21, 22, 23, 24, 34];
 
-/// The numbers that the header defines besides the session's size are the model's.
+/// The numbers that the header defines besides the session's size are the model's, or those by which packets are damaged.
 const _: () = assert!(
     defined("#define KB_ROWS ") == ROWS as u32
         && defined("#define KB_SLOTS ") == SLOTS

@@ -17,7 +17,7 @@ impl Random {
 
     /// 0 to `end` less one.
     pub fn below(&mut self, end: u32) -> u32 {
-        (((self.word() >> 32) * u64::from(end)) >> 32) as u32
+        ((self.word() >> 32) * u64::from(end) >> 32) as u32
     }
 
     /// `low` to `high`.

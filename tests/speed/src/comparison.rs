@@ -1,5 +1,5 @@
 //! Holds the peer to the model: both are called on the same random input, with outputs that hold the same bytes before, and must
-//! give the same answer and leave the same bytes.
+//! give the same answer and the same place, and leave the same bytes.
 
 use crate::peer;
 use bench_model::packets;

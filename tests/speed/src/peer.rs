@@ -1,5 +1,5 @@
 //! A tuned peer of the gate reader and writer: what is written by hand where speed alone counts. It is made from documents 01 and 02
-//! and shares nothing with the archive or the model; `comparison` holds it to the model's answers and bytes.
+//! and shares nothing with the archive or the model; `comparison` holds it to the model's answers, places and bytes.
 //!
 //! A gate's 35 bits lie in one window of 64 bits, and a field is one shift and one mask of it. Each gate is judged and turned in one
 //! pass, into bytes of the function's own; where all are allowed these are copied to the output. That takes fewer instructions than

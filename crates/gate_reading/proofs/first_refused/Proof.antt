@@ -1,5 +1,5 @@
 -- `gate_reading::first_refused` meets its contract. The invariant: the refusal of the gates left is that of all.
-use Prim.Native.Nat.{ℕ, _+_, _-_, _≤_}
+use Prim.Native.Nat.{_+_, _-_, _≤_}
 use mathlib.Core.Path.{_≡_, _∙_}
 use native.Mathlib.Omega.{arith}
 use lib.Seq.{slice}
