@@ -1,4 +1,5 @@
--- WHERE A GATE READ SAYS THAT IT BROKE: what its number and its place say together, at any width of the distance.
+-- WHERE A GATE READ SAYS THAT IT BROKE: what its number and its place say together, at any width of the distance
+-- from 8 to 15.
 use mathlib.Core.Path.{_≡_, refl, sym, ap, subst, _∙_}
 use mathlib.Core.List.{List, [], _∷_}
 use mathlib.Core.Logic.{_⊎_, inl, inr}

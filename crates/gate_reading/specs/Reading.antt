@@ -14,7 +14,7 @@ use Rattle.gate_reading.specs.declared.GatesRead.{GatesRead}
 unfoldable pub gatesOf : ℕ → List ℕ → List ℕ
 gatesOf distance s = unpack s 16 (times (countOf s) (gateWidths distance))
 
--- the length is the one that the count asks for
+-- the length must be the one for the count
 abbrev pub lengthRefusal : ℕ → List ℕ → Refusal
 lengthRefusal distance s = refuse (not (eqb (lengthOf s) (sizeOf distance (countOf s)))) lengthNotForCount
 
@@ -22,11 +22,11 @@ lengthRefusal distance s = refuse (not (eqb (lengthOf s) (sizeOf distance (count
 abbrev pub paddingOf : ℕ → List ℕ → ℕ → ℕ
 paddingOf distance s n = field s (bitsOf distance n) (paddingBits distance n)
 
--- they are zero; at fault is the first that is set
+-- they must be zero; at fault is the first that is set
 abbrev pub paddingRefusal : ℕ → List ℕ → ℕ → Refusal
 paddingRefusal distance s n = refuse (ltb 0 (paddingOf distance s n)) (paddingSet (firstSet s (bitsOf distance n) (paddingBits distance n)))
 
--- n gates have room
+-- n gates must have room
 abbrev pub roomRefusal : ℕ → ℕ → Refusal
 roomRefusal n room = refuse (ltb room (gateBytes * n)) noRoom
 
