@@ -4,12 +4,14 @@
   tests/packet_cases.py stdin  > crates/packet_runs/stdin
   tests/packet_cases.py stdout > crates/packet_runs/stdout
 
-A case is a kind (1 framing, 2 gates read, 3 gates written), the output's room, and the input. The output holds AA before each case. The lines,
-where a place is the first bit of the field at fault, counted from the start of the sub-packet:
+A case is a kind (1 framing, 2 gates read, 3 gates written, 4 turnouts read, 5 turnouts written), the output's room, and the input. The output
+holds AA before each case. The lines, where a place is the first bit of the field at fault, counted from the start of the sub-packet:
 
-  1 ANSWER PLACE LENGTH HEX         the sub-packet that was framed: its bytes, and they in hex
-  2 ANSWER PLACE GATES BYTES HEX    the gates read, the sub-packet's bytes, the output in hex
-  3 ANSWER GATES BYTES HEX          the gates written, the sub-packet's bytes, the output in hex
+  1 ANSWER PLACE LENGTH HEX            the sub-packet that was framed: its bytes, and they in hex
+  2 ANSWER PLACE GATES BYTES HEX       the gates read, the sub-packet's bytes, the output in hex
+  3 ANSWER GATES BYTES HEX             the gates written, the sub-packet's bytes, the output in hex
+  4 ANSWER PLACE TURNOUTS BYTES HEX    the same of turnouts read
+  5 ANSWER TURNOUTS BYTES HEX          and of turnouts written
 """
 import random
 import sys
@@ -17,11 +19,38 @@ import sys
 WIDTHS = [("distance", 15), ("number", 10), ("suffix", 3), ("manning", 1), ("class", 3), ("whistling", 1), ("type", 2)]
 ALLOWED = {"number": range(1, 1023), "suffix": range(7), "class": range(7), "type": range(3)}
 
+# A turnout's fields; the distances follow a restricted speed only. Of the codes for speeds the last, 31, is unrestricted.
+TURNOUT_WIDTHS = [("speed", 5), ("distance", 15), ("release", 12)]
+RESTRICTED = range(1, 19)
+SPEEDS = (*RESTRICTED, 31)
+
 
 def bits(data, at, width):
     """the number that `width` bits from bit `at` on make; the first bit is the top bit of the first byte"""
-    whole = int.from_bytes(data, "big")
-    return whole >> (8 * len(data) - at - width) & ((1 << width) - 1)
+    number = int.from_bytes(data, "big")
+    return number >> (8 * len(data) - at - width) & ((1 << width) - 1)
+
+
+def fields_at(data, at, widths):
+    """the fields that stand from bit `at` on, one behind the other"""
+    found = {}
+    for name, width in widths:
+        found[name] = bits(data, at, width)
+        at += width
+    return found
+
+
+def whole(width):
+    """the bytes that so many bits take"""
+    return (width + 7) // 8
+
+
+def joined(fields, pad):
+    """fields, each a value and its width, one behind the other, and what fills up to a byte"""
+    value = width = 0
+    for field, bits_ in fields:
+        value, width = value << bits_ | field, width + bits_
+    return (value << 8 * whole(width) - width | pad).to_bytes(whole(width), "big")
 
 
 def end(gates):
@@ -30,7 +59,7 @@ def end(gates):
 
 
 def size(gates):
-    return (end(gates) + 7) // 8
+    return whole(end(gates))
 
 
 def padding(gates):
@@ -40,12 +69,8 @@ def padding(gates):
 
 def pack(gates, length=None, count=None, pad=0, kind=3):
     """a gate sub-packet, or one that is wrong in a named way"""
-    n = size(len(gates))
-    value = kind << 12 | (n if length is None else length) << 5 | (len(gates) if count is None else count)
-    for gate in gates:
-        for name, width in WIDTHS:
-            value = value << width | gate[name]
-    return (value << padding(len(gates)) | pad).to_bytes(n, "big")
+    head = [(kind, 4), (size(len(gates)) if length is None else length, 7), (len(gates) if count is None else count, 5)]
+    return joined(head + [(g[name], width) for g in gates for name, width in WIDTHS], pad)
 
 
 def outside(gates):
@@ -79,17 +104,18 @@ def first_wrong(data, count):
     return None
 
 
-def first_set(data, count):
-    """the first bit of the padding that is set, or None: where the number that all of it makes has its top bit"""
-    value = bits(data, end(count), padding(count))
-    return 8 * size(count) - value.bit_length() if value else None
+def first_set(data, at):
+    """the first bit that is set of the padding, which fills up a byte from bit `at` on, or None: where the number that it makes has its top bit"""
+    end_ = 8 * whole(at)
+    value = bits(data, at, end_ - at)
+    return end_ - value.bit_length() if value else None
 
 
 def gates_in(data, count):
-    return [{name: bits(data, end(n) + sum(before for _, before in WIDTHS[:i]), width) for i, (name, width) in enumerate(WIDTHS)} for n in range(count)]
+    return [fields_at(data, end(n), WIDTHS) for n in range(count)]
 
 
-def read(data, room):
+def read_gates(data, room):
     """the answer, the place, and the gates"""
     refusal, place = frame(data, range(3, 4))
     if refusal:
@@ -100,7 +126,7 @@ def read(data, room):
     wrong = first_wrong(data, count)
     if wrong is not None:
         return 4, wrong, []
-    pad = first_set(data, count)
+    pad = first_set(data, end(count))
     if pad is not None:
         return 5, pad, []
     if room < 9 * count:
@@ -108,7 +134,7 @@ def read(data, room):
     return 0, 0, gates_in(data, count)
 
 
-def write(data, room):
+def write_gates(data, room):
     """the answer, and the sub-packet"""
     if len(data) % 9 or len(data) // 9 > 28:
         return 3, b""
@@ -124,18 +150,89 @@ def write(data, room):
     return 0, pack(gates)
 
 
+def pack_turnouts(turnouts, length=None, count=None, pad=0, kind=4):
+    """a turnout sub-packet, or one that is wrong in a named way. A turnout has the fields that it holds, whatever its speed."""
+    body = [(t[name], width) for t in turnouts for name, width in TURNOUT_WIDTHS if name in t]
+    n = whole(13 + sum(width for _, width in body))
+    return joined([(kind, 4), (n if length is None else length, 7), (len(turnouts) if count is None else count, 2), *body], pad)
+
+
+def turnouts_outside(turnouts):
+    """5 bytes a turnout; what is absent is zero"""
+    return b"".join(bytes([t["speed"]]) + t.get("distance", 0).to_bytes(2, "big") + t.get("release", 0).to_bytes(2, "big") for t in turnouts)
+
+
+def fields_for(speed):
+    """the fields of a turnout with this speed"""
+    return TURNOUT_WIDTHS if speed in RESTRICTED else TURNOUT_WIDTHS[:1]
+
+
+def turnouts_in(packet):
+    """each turnout with its first bit, and the bit behind the last; or None where one runs past the sub-packet"""
+    found, at, last = [], 13, 8 * len(packet)
+    for _ in range(bits(packet, 11, 2)):
+        if at + 5 > last:
+            return None
+        fields = fields_for(bits(packet, at, 5))
+        behind = at + sum(width for _, width in fields)
+        if behind > last:
+            return None
+        found.append((at, fields_at(packet, at, fields)))
+        at = behind
+    return found, at
+
+
+def read_turnouts(data, room):
+    """the answer, the place, and the turnouts"""
+    refusal, place = frame(data, range(4, 5))
+    if refusal:
+        return refusal, place, []
+    packet = data[:bits(data, 4, 7)]
+    walked = turnouts_in(packet)
+    if walked is None or whole(walked[1]) != len(packet):
+        return 3, 11, []
+    found, behind = walked
+    for at, turnout in found:
+        if turnout["speed"] not in SPEEDS:
+            return 4, at, []
+    pad = first_set(packet, behind)
+    if pad is not None:
+        return 5, pad, []
+    if room < 5 * len(found):
+        return 1, 0, []
+    return 0, 0, [turnout for _, turnout in found]
+
+
+def write_turnouts(data, room):
+    """the answer, and the sub-packet"""
+    if len(data) % 5 or len(data) // 5 > 3:
+        return 3, b""
+    turnouts = []
+    for i in range(0, len(data), 5):
+        d = data[i:i + 5]
+        given = {"speed": d[0], "distance": d[1] << 8 | d[2], "release": d[3] << 8 | d[4]}
+        # a field that is absent has no bits, so that only zero has room in it
+        widths = dict(fields_for(given["speed"]))
+        if given["speed"] not in SPEEDS or any(value >> widths.get(name, 0) for name, value in given.items()):
+            return 4, b""
+        turnouts.append({name: given[name] for name in widths})
+    packet = pack_turnouts(turnouts)
+    return (1, b"") if room < len(packet) else (0, packet)
+
+
 def expected(kind, room, data):
     out = b"\xaa" * room
     if kind == 1:
         answer, place = frame(data)
         sub = data[:bits(data, 4, 7)] if answer == 0 else b""
         return f"1 {answer} {place} {len(sub)} {sub.hex()}"
-    if kind == 2:
-        answer, place, gates = read(data, room)
-        list_ = outside(gates)
-        return f"2 {answer} {place} {len(gates)} {0 if answer else size(len(gates))} {(list_ + out[len(list_):]).hex()}"
-    answer, packet = write(data, room)
-    return f"3 {answer} {0 if answer else len(data) // 9} {len(packet)} {(packet + out[len(packet):]).hex()}"
+    if kind in (2, 4):
+        answer, place, found = (read_gates if kind == 2 else read_turnouts)(data, room)
+        list_ = (outside if kind == 2 else turnouts_outside)(found)
+        return f"{kind} {answer} {place} {len(found)} {0 if answer else bits(data, 4, 7)} {(list_ + out[len(list_):]).hex()}"
+    answer, packet = (write_gates if kind == 3 else write_turnouts)(data, room)
+    written = 0 if answer else len(data) // (9 if kind == 3 else 5)
+    return f"{kind} {answer} {written} {len(packet)} {(packet + out[len(packet):]).hex()}"
 
 
 def gate(**changed):
@@ -218,6 +315,161 @@ def place_cases():
         yield 1, 0, packet
 
 
+def restricted(speed=6, distance=1200, release=400):
+    return {"speed": speed, "distance": distance, "release": release}
+
+
+UNRESTRICTED = {"speed": 31}
+
+
+def with_speed(speed):
+    """a turnout with any code, in the form that the code has"""
+    return restricted(speed, 1000 * speed + 321, 200 * speed + 123) if speed in RESTRICTED else {"speed": speed}
+
+
+def layouts(count):
+    """so many turnouts, each restricted or not, in every way"""
+    if count == 0:
+        return [[]]
+    return [[first, *rest] for first in (UNRESTRICTED, with_speed(5 * count)) for rest in layouts(count - 1)]
+
+
+def speed_cases():
+    """every code alone, read and written; and between two others of which one is restricted, written too where a range ends"""
+    for speed in range(32):
+        alone = pack_turnouts([with_speed(speed)])
+        yield 4, 5, alone
+        yield 5, len(alone), turnouts_outside([with_speed(speed)])
+        neighbours = [UNRESTRICTED, restricted()]
+        three = [neighbours[speed % 2], with_speed(speed), neighbours[1 - speed % 2]]
+        yield 4, 15, pack_turnouts(three)
+        if speed in (0, 1, 18, 19, 30, 31):
+            yield 5, 14, turnouts_outside(three)
+    # the distances at their least and greatest
+    for distance, release in ((0, 0), (1, 1), (0, 4095), (32767, 0), (32767, 4095)):
+        turnouts = [UNRESTRICTED, restricted(1, distance, release), restricted(18, release, distance >> 3)]
+        yield 4, 15, pack_turnouts(turnouts)
+        yield 5, 11, turnouts_outside(turnouts)
+
+
+def layout_cases():
+    """each turnout with distances and without, what follows the sub-packet, the room, and every bit of a padding of each width that there is"""
+    widths = set()
+    for turnouts in (turnouts for count in range(4) for turnouts in layouts(count)):
+        packet = pack_turnouts(turnouts)
+        yield 4, 5 * len(turnouts) + 2, packet + b"\xf8\x0f"
+        if len(turnouts) == 3:
+            yield 5, len(packet) + 2, turnouts_outside(turnouts)
+        width = 8 * len(packet) - 13 - sum(32 if "distance" in t else 5 for t in turnouts)
+        if width not in widths:
+            widths.add(width)
+            for bit in range(width):
+                yield 4, 0, pack_turnouts(turnouts, pad=1 << bit)
+    assert sorted(widths) == [1, 3, 4, 6]
+    # room one byte short, for reading and for writing; three turnouts with distances take 14 bytes
+    for turnouts in ([UNRESTRICTED], [restricted()], [restricted()] * 3):
+        packet = pack_turnouts(turnouts)
+        yield 4, 5 * len(turnouts) - 1, packet
+        yield 5, len(packet) - 1, turnouts_outside(turnouts)
+    assert len(packet) == 14
+    yield 4, 0, packet
+    yield 5, 1, b""
+    # the longest padding: all of it, and its ends
+    for pad in (0b111111, 0b100001):
+        yield 4, 5, pack_turnouts([UNRESTRICTED], pad=pad)
+
+
+def form_cases():
+    """the shortest input for each ground of the framing and the length rule"""
+    yield 4, 15, b""
+    yield 4, 15, b"\x40"
+    for kind in (0, 3, 5, 12):
+        yield 4, 15, pack_turnouts([], kind=kind)
+    for length in (0, 1):
+        yield 4, 15, pack_turnouts([], length=length)
+    yield 4, 15, pack_turnouts([], length=3)
+    for turnouts in ([UNRESTRICTED], [restricted()]):
+        yield 4, 15, pack_turnouts(turnouts)[:-1]
+        yield 4, 15, pack_turnouts(turnouts, length=127) + bytes(8)
+    # a length that is longer or shorter than the turnouts, whose bytes are all there
+    for turnouts in ([], [UNRESTRICTED], [restricted()], [restricted()] * 3):
+        n = len(pack_turnouts(turnouts))
+        yield 4, 15, pack_turnouts(turnouts, length=n + 1) + b"\x00"
+        if n > 2:
+            yield 4, 15, pack_turnouts(turnouts, length=n - 1)
+    # a speed, a distance and a release distance that run past the sub-packet, and bytes behind it that would do
+    for packet in (b"\x40\x48", b"\x40\x48\xf8", b"\x40\x48\xf8\x00\x00\x00\x00", b"\x40\x58\xff", pack_turnouts([UNRESTRICTED] * 2, count=3),
+                   pack_turnouts([restricted()] * 2, count=3) + b"\xff" * 4, pack_turnouts([restricted()], length=4)):
+        yield 4, 15, packet
+    yield 4, 15, pack_turnouts([UNRESTRICTED], count=0)
+    # the two forms of a turnout with codes that have the other one
+    for speed in (1, 18):
+        yield 4, 15, pack_turnouts([{"speed": speed}])
+        yield 4, 15, pack_turnouts([restricted(), {"speed": speed}, UNRESTRICTED])
+    for speed in (0, 19, 30, 31):
+        yield 4, 15, pack_turnouts([restricted(speed, 0, 0)])
+
+
+def order_cases():
+    """two wrongs and more, of which the first to be judged is told"""
+    # a length that is not the turnouts', before a speed in an earlier turnout
+    for speed in (0, 19, 30):
+        yield 4, 15, pack_turnouts([{"speed": speed}], length=4) + b"\x00"
+        yield 4, 15, pack_turnouts([{"speed": speed}, UNRESTRICTED, {"speed": 18}])
+    # the first of the wrong speeds
+    for speeds in ((0, 19, 31), (31, 30, 0), (31, 31, 26), (7, 19, 0), (7, 18, 24)):
+        yield 4, 15, pack_turnouts([with_speed(speed) for speed in speeds])
+    # each case lacks the ground that the one before was refused for
+    wrong = [{"speed": 0}, restricted(), {"speed": 25}]
+    for packet in (pack_turnouts(wrong, kind=8, length=1, pad=1)[:1], pack_turnouts(wrong, kind=8, length=1, pad=1),
+                   pack_turnouts(wrong, length=1, pad=1), pack_turnouts(wrong, length=8, pad=1), pack_turnouts(wrong, length=8, pad=1) + b"\x00",
+                   pack_turnouts(wrong, pad=1),
+                   pack_turnouts([UNRESTRICTED, *wrong[1:]], pad=1), pack_turnouts([UNRESTRICTED, restricted(), UNRESTRICTED], pad=1),
+                   pack_turnouts([UNRESTRICTED, restricted(), UNRESTRICTED])):
+        yield 4, 14, packet
+    # writing: the list, then its fields, then the room
+    yield 5, 0, turnouts_outside([{"speed": 0}]) + b"\x00"
+    yield 5, 0, turnouts_outside([{"speed": 0}] * 4)
+    yield 5, 0, turnouts_outside([{"speed": 0}] * 3)
+
+
+def list_cases():
+    """lists of every length up to 21, and fields that have no room in their width"""
+    for length in range(22):
+        yield 5, 6, (turnouts_outside([UNRESTRICTED]) * 5)[:length]
+    for turnout in ({"speed": 32}, {"speed": 255}, restricted(distance=32768), restricted(distance=65535), restricted(release=4096),
+                    restricted(release=65535)):
+        yield 5, 14, turnouts_outside([turnout])
+    # beside an unrestricted speed each byte of a distance must be zero, in the first turnout or a later one
+    for offset in range(1, 5):
+        list_ = bytearray(turnouts_outside([UNRESTRICTED, restricted(), UNRESTRICTED]))
+        list_[offset + 10 * (offset % 2)] = 1 << offset
+        yield 5, 14, bytes(list_)
+
+
+def random_turnout_cases():
+    """some lists there and back, and some sub-packets damaged"""
+    r = random.Random(4)
+    for count in (1, 2, 3):
+        turnouts = [restricted(r.randrange(1, 19), r.randrange(1 << 15), r.randrange(1 << 12)) if r.randrange(3) else UNRESTRICTED for _ in range(count)]
+        packet = pack_turnouts(turnouts)
+        yield 4, 16, packet
+        yield 5, 15, turnouts_outside(turnouts)
+        for _ in range(2):
+            hurt = bytearray(packet + bytes(2))
+            hurt[r.randrange(len(packet))] ^= 1 << r.randrange(8)
+            yield 4, 16, bytes(hurt)
+
+
+def turnout_cases():
+    yield from speed_cases()
+    yield from layout_cases()
+    yield from form_cases()
+    yield from order_cases()
+    yield from list_cases()
+    yield from random_turnout_cases()
+
+
 def cases():
     r = random.Random(35)
     one = bytes.fromhex("30E10514061280")
@@ -291,6 +543,7 @@ def cases():
         hurt[r.randrange(len(hurt))] ^= 1 << r.randrange(8)
         yield 2, 9 * n + 3, bytes(hurt)
     yield from place_cases()
+    yield from turnout_cases()
 
 
 if sys.argv[1:] == ["stdin"]:
