@@ -15,3 +15,4 @@ pub mod recording;
 pub mod session;
 pub mod sos;
 pub mod train;
+pub mod turnouts;

@@ -4,11 +4,12 @@ use crate::answers::{BAD_FIELD, BAD_LENGTH, BAD_PADDING, BAD_TYPE, SHORT};
 
 const GATE_TYPE: u32 = 3;
 const MOST_GATES: usize = 28;
-// The first bits of the header's fields: type 4 bits, length 7, and in a gate sub-packet the count 5.
-const TYPE: usize = 0;
+// The first bits of the header's fields: type 4 bits, length 7, and where there is one the count, of gates 5.
+pub(crate) const TYPE: usize = 0;
 pub const LENGTH: usize = 4;
 pub const COUNT: usize = 11;
-pub const HEADER_BITS: usize = 16;
+const COUNT_BITS: usize = 5;
+pub const HEADER_BITS: usize = COUNT + COUNT_BITS;
 pub const GATE_BITS: usize = 35;
 /// A gate outside the sub-packet.
 pub const GATE_BYTES: usize = 9;
@@ -64,17 +65,17 @@ pub struct GatesWritten {
 }
 
 /// Why a sub-packet is refused, and where: the first bit of the field at fault, counted from the start of the sub-packet.
-struct Refusal {
-    answer: u32,
-    place: u32,
+pub(crate) struct Refusal {
+    pub answer: u32,
+    pub place: u32,
 }
 
-fn refused(answer: u32, bit: usize) -> Refusal {
+pub(crate) fn refused(answer: u32, bit: usize) -> Refusal {
     Refusal { answer, place: bit as u32 }
 }
 
 /// Bytes or room that are missing are in no field: their place is 0.
-fn short() -> Refusal {
+pub(crate) fn short() -> Refusal {
     refused(SHORT, 0)
 }
 
@@ -84,14 +85,14 @@ pub fn number(bytes: &[u8]) -> u32 {
 }
 
 /// The field of `width` bits, at most 17, that begins at bit `at`, counted from the top bit of the first byte.
-fn bits(bytes: &[u8], at: usize, width: usize) -> u32 {
+pub(crate) fn bits(bytes: &[u8], at: usize, width: usize) -> u32 {
     let end = at + width;
     let below = end.next_multiple_of(8) - end;
     number(&bytes[at / 8..end.div_ceil(8)]) >> below & ((1 << width) - 1)
 }
 
 /// Puts a field into bytes that are zero there.
-fn put_bits(bytes: &mut [u8], at: usize, width: usize, value: u32) {
+pub(crate) fn put_bits(bytes: &mut [u8], at: usize, width: usize, value: u32) {
     let end = at + width;
     let below = end.next_multiple_of(8) - end;
     let spread = (value << below).to_be_bytes();
@@ -103,7 +104,7 @@ fn put_bits(bytes: &mut [u8], at: usize, width: usize, value: u32) {
 }
 
 /// The first sub-packet of the input, header included, judged with the given rule for types.
-fn framed(input: &[u8], type_fits: impl Fn(u32) -> bool) -> Result<&[u8], Refusal> {
+pub(crate) fn framed(input: &[u8], type_fits: impl Fn(u32) -> bool) -> Result<&[u8], Refusal> {
     if input.len() < 2 {
         return Err(short());
     }
@@ -115,6 +116,22 @@ fn framed(input: &[u8], type_fits: impl Fn(u32) -> bool) -> Result<&[u8], Refusa
         return Err(refused(BAD_LENGTH, LENGTH));
     }
     input.get(..length).ok_or(short())
+}
+
+/// Zero bits alone fill a sub-packet up from bit `at` on.
+pub(crate) fn judge_padding(packet: &[u8], at: usize) -> Result<(), Refusal> {
+    match (at..packet.len() * 8).find(|&bit| bits(packet, bit, 1) == 1) {
+        Some(set) => Err(refused(BAD_PADDING, set)),
+        None => Ok(()),
+    }
+}
+
+/// Makes a sub-packet of zeros and its header; the count has so many bits.
+pub(crate) fn put_header(packet: &mut [u8], kind: u32, count: usize, count_bits: usize) {
+    packet.fill(0);
+    put_bits(packet, TYPE, 4, kind);
+    put_bits(packet, LENGTH, 7, packet.len() as u32);
+    put_bits(packet, COUNT, count_bits, count as u32);
 }
 
 /// Framing: the first sub-packet of `input`, of any type.
@@ -143,7 +160,7 @@ pub fn read_gates(input: &[u8], output: &mut [u8]) -> GatesRead {
 /// The gate sub-packet at the front of the input and its count, with all the reader's rules judged in their order.
 fn gates_of(input: &[u8], room: usize) -> Result<(&[u8], usize), Refusal> {
     let packet = framed(input, |kind| kind == GATE_TYPE)?;
-    let gates = bits(packet, COUNT, 5) as usize;
+    let gates = bits(packet, COUNT, COUNT_BITS) as usize;
     if packet.len() != gate_packet_length(gates) {
         return Err(refused(BAD_LENGTH, COUNT));
     }
@@ -156,9 +173,7 @@ fn gates_of(input: &[u8], room: usize) -> Result<(&[u8], usize), Refusal> {
             at += field.bits;
         }
     }
-    if let Some(set) = (at..packet.len() * 8).find(|&bit| bits(packet, bit, 1) == 1) {
-        return Err(refused(BAD_PADDING, set));
-    }
+    judge_padding(packet, at)?;
     if room < gates * GATE_BYTES {
         return Err(short());
     }
@@ -229,10 +244,7 @@ fn room_to_write(input: &[u8], room: usize) -> Result<usize, u32> {
 }
 
 fn pack(input: &[u8], packet: &mut [u8]) {
-    packet.fill(0);
-    put_bits(packet, TYPE, 4, GATE_TYPE);
-    put_bits(packet, LENGTH, 7, packet.len() as u32);
-    put_bits(packet, COUNT, 5, (input.len() / GATE_BYTES) as u32);
+    put_header(packet, GATE_TYPE, input.len() / GATE_BYTES, COUNT_BITS);
     let mut at = HEADER_BITS;
     for gate in input.chunks_exact(GATE_BYTES) {
         let mut rest = gate;

@@ -1,7 +1,7 @@
 //! Document 01's examples and the rules beside them, run on the model.
 
 use bench_model::session::{Answer, Pair, Session, NONE};
-use bench_model::{clock, modes, packets, recording, sos};
+use bench_model::{clock, modes, packets, recording, sos, turnouts};
 
 fn accepted(numbers: [u32; 3]) -> Answer {
     Answer { answer: 0, numbers }
@@ -162,6 +162,14 @@ impl Chance {
         gate[4..].copy_from_slice(&small);
         gate
     }
+
+    /// A turnout's speed, distance and release distance, both zero where the speed is unrestricted.
+    fn turnout(&mut self) -> [u32; 3] {
+        match 1 + self.below(24) {
+            speed @ 1..=18 => [speed, self.below(32_768), self.below(4_096)],
+            _ => [31, 0, 0],
+        }
+    }
 }
 
 #[test]
@@ -303,6 +311,303 @@ fn every_place_is_listed() {
     }
     assert_eq!(packets::places(), places);
     assert_eq!(places.len(), 3 + 4 * 28 + 102);
+}
+
+// Worked out by hand: type 4, length, count, then of each turnout the speed 5 bits and, for 30 km/h, 1,200 m in 15 and 400 m in 12.
+const NO_TURNOUTS: [u8; 2] = [0x40, 0x40];
+/// 0100 0000110 01, 00110 000010010110000 000110010000, 000.
+const RESTRICTED: [u8; 6] = [0x40, 0xC9, 0x82, 0x58, 0x0C, 0x80];
+/// 0100 0000011 01, 11111, 000000.
+const UNRESTRICTED: [u8; 3] = [0x40, 0x6F, 0xC0];
+/// Both: 0100 0000111 10, 00110 000010010110000 000110010000, 11111, 000000.
+const TWO_TURNOUTS: [u8; 7] = [0x40, 0xF1, 0x82, 0x58, 0x0C, 0x87, 0xC0];
+const TWO_OUTSIDE: [u8; 10] = [6, 4, 176, 1, 144, 31, 0, 0, 0, 0];
+
+/// The answer and place of a read of turnouts into so much room, which tells none and leaves the room as it was where it is refused.
+fn turnouts_into(room: usize, packet: &[u8]) -> (u32, u32) {
+    let mut output = vec![7; room];
+    let read = turnouts::read_turnouts(packet, &mut output);
+    if read.answer != 0 {
+        assert_eq!((read.turnouts, read.bytes, output), (0, 0, vec![7; room]));
+    }
+    (read.answer, read.place)
+}
+
+fn read_turnouts(packet: &[u8]) -> (u32, u32) {
+    turnouts_into(15, packet)
+}
+
+/// The answer of a write of turnouts into so much room, which tells none and leaves the room as it was where it is refused.
+fn turnouts_written_into(room: usize, list: &[u8]) -> u32 {
+    let mut output = vec![7; room];
+    let written = turnouts::write_turnouts(list, &mut output);
+    if written.answer != 0 {
+        assert_eq!((written.turnouts, written.bytes, output), (0, 0, vec![7; room]));
+    }
+    written.answer
+}
+
+/// The bits that a turnout with such a code takes.
+fn turnout_bits(speed: u32) -> usize {
+    if (1..=18).contains(&speed) {
+        32
+    } else {
+        5
+    }
+}
+
+/// A sub-packet of turnouts, which may have any codes; and where each starts, with the bit behind the last.
+fn turnout_packet(turnouts: &[[u32; 3]]) -> (Vec<u8>, Vec<usize>) {
+    let mut starts = vec![13];
+    starts.extend(turnouts.iter().scan(13, |end, &[speed, ..]| {
+        *end += turnout_bits(speed);
+        Some(*end)
+    }));
+    let length = starts[turnouts.len()].div_ceil(8);
+    let header = (4 << 9 | length << 2 | turnouts.len()) as u32;
+    let mut packet = with(&vec![0; length], 0, 13, header);
+    for (&at, &[speed, distance, release]) in starts.iter().zip(turnouts) {
+        packet = with(&packet, at, 5, speed);
+        if turnout_bits(speed) == 32 {
+            packet = with(&with(&packet, at + 5, 15, distance), at + 20, 12, release);
+        }
+    }
+    (packet, starts)
+}
+
+/// Turnouts in every layout: none to three, each with distances, whose bits are all set, or without.
+fn layouts() -> Vec<Vec<[u32; 3]>> {
+    let mut all = vec![vec![]];
+    for count in 0..3 {
+        let longest: Vec<_> = all.iter().filter(|layout| layout.len() == count).cloned().collect();
+        for layout in longest {
+            for turnout in [[18, 32_767, 4_095], [31, 0, 0]] {
+                all.push([&layout[..], &[turnout]].concat());
+            }
+        }
+    }
+    assert_eq!(all.len(), 1 + 2 + 4 + 8);
+    all
+}
+
+fn outside(turnouts: &[[u32; 3]]) -> Vec<u8> {
+    let bytes = |&[speed, distance, release]: &[u32; 3]| {
+        let ([a, b], [c, d]) = ((distance as u16).to_be_bytes(), (release as u16).to_be_bytes());
+        [speed as u8, a, b, c, d]
+    };
+    turnouts.iter().flat_map(bytes).collect()
+}
+
+#[test]
+fn turnouts_read() {
+    let mut output = [7; 12];
+    let read = turnouts::read_turnouts(&NO_TURNOUTS, &mut output);
+    assert_eq!((read.answer, read.place, read.turnouts, read.bytes, output), (0, 0, 0, 2, [7; 12]));
+    for (packet, list) in
+        [(&RESTRICTED[..], &TWO_OUTSIDE[..5]), (&UNRESTRICTED, &TWO_OUTSIDE[5..]), (&TWO_TURNOUTS, &TWO_OUTSIDE)]
+    {
+        let (count, length, mut output) = (list.len() / 5, packet.len(), [7; 12]);
+        let read = turnouts::read_turnouts(&[packet, &[0xFF; 3]].concat(), &mut output);
+        assert_eq!((read.answer, read.place, read.turnouts, read.bytes), (0, 0, count, length));
+        assert_eq!((&output[..list.len()], &output[list.len()..]), (list, &[7; 12][list.len()..]));
+        assert_eq!(turnouts_into(list.len(), packet), (0, 0));
+        assert_eq!(turnouts_into(list.len() - 1, packet), (1, 0));
+    }
+}
+
+#[test]
+fn turnouts_written() {
+    for (packet, list) in [
+        (&NO_TURNOUTS[..], &[][..]),
+        (&RESTRICTED, &TWO_OUTSIDE[..5]),
+        (&UNRESTRICTED, &TWO_OUTSIDE[5..]),
+        (&TWO_TURNOUTS, &TWO_OUTSIDE),
+    ] {
+        let (count, length, mut output) = (list.len() / 5, packet.len(), [9; 9]);
+        let written = turnouts::write_turnouts(list, &mut output);
+        assert_eq!((written.answer, written.turnouts, written.bytes), (0, count, length));
+        assert_eq!((&output[..length], &output[length..]), (packet, &[9; 9][length..]));
+        assert_eq!(turnouts_written_into(length, list), 0);
+        assert_eq!(turnouts_written_into(length - 1, list), 1);
+    }
+    assert_eq!(turnouts_written_into(14, &TWO_OUTSIDE[..5].repeat(3)), 0);
+    assert_eq!(turnouts_written_into(13, &TWO_OUTSIDE[..5].repeat(3)), 1);
+}
+
+#[test]
+fn every_speed_code_of_a_turnout() {
+    for speed in 0..=255 {
+        let allowed = matches!(speed, 1..=18 | 31);
+        for before in [vec![], vec![[31, 0, 0]], vec![[18, 32_767, 4_095]], vec![[31, 0, 0], [1, 0, 0]]] {
+            for behind in [&[][..], &[[31, 0, 0]], &[[1, 5, 0]], &[[0, 0, 0]]] {
+                let turnouts = [&before[..], &[[speed, 0, 0]], behind].concat();
+                if turnouts.len() > 3 {
+                    continue;
+                }
+                // The first wrong speed is told, and one of 0 may stand behind.
+                let zero = behind == [[0, 0, 0]];
+                assert_eq!(turnouts_written_into(14, &outside(&turnouts)), if allowed && !zero { 0 } else { 4 });
+                if speed < 32 {
+                    let (packet, starts) = turnout_packet(&turnouts);
+                    let place = if allowed { starts[before.len() + 1] } else { starts[before.len()] };
+                    let told = if allowed && !zero { (0, 0) } else { (4, place as u32) };
+                    assert_eq!(read_turnouts(&packet), told);
+                }
+            }
+        }
+    }
+}
+
+#[test]
+fn each_ground_of_turnouts_has_its_place_in_the_shortest_input() {
+    assert_eq!(read_turnouts(&NO_TURNOUTS), (0, 0));
+    assert_eq!(read_turnouts(&[]), (1, 0));
+    assert_eq!(read_turnouts(&[0x40]), (1, 0));
+    assert_eq!(read_turnouts(&[0x40, 0x60]), (1, 0));
+    assert_eq!(turnouts_into(4, &UNRESTRICTED), (1, 0));
+    for kind in (0..16).filter(|&kind| kind != 4) {
+        assert_eq!(read_turnouts(&[kind << 4, 0x40]), (2, 0));
+    }
+    assert_eq!(read_turnouts(&[0x40, 0x00]), (3, 4));
+    assert_eq!(read_turnouts(&[0x40, 0x3F]), (3, 4));
+    // A speed runs past the sub-packet, whatever follows it; so does a distance; a byte is too many.
+    assert_eq!(read_turnouts(&[0x40, 0x48]), (3, 11));
+    assert_eq!(read_turnouts(&[0x40, 0x4F, 0xC0]), (3, 11));
+    assert_eq!(read_turnouts(&[0x40, 0x69, 0x80, 0, 0, 0]), (3, 11));
+    assert_eq!(read_turnouts(&[0x40, 0x60, 0]), (3, 11));
+    for speed in [0, 19, 30] {
+        assert_eq!(read_turnouts(&with(&UNRESTRICTED, 13, 5, speed)), (4, 13));
+    }
+    assert_eq!(read_turnouts(&[0x40, 0x41]), (5, 15));
+}
+
+#[test]
+fn lengths_and_padding_of_every_layout_of_turnouts() {
+    for layout in layouts() {
+        let (packet, starts) = turnout_packet(&layout);
+        let (length, end) = (packet.len(), starts[layout.len()]);
+        let longer = [&packet[..], &[0xFF; 127]].concat();
+        assert_eq!(read_turnouts(&longer), (0, 0));
+        for cut in 2..length {
+            assert_eq!(read_turnouts(&packet[..cut]), (1, 0));
+        }
+        for other in (2..128).filter(|&other| other != length) {
+            assert_eq!(read_turnouts(&with(&longer, 4, 7, other as u32)), (3, 11));
+        }
+        for bit in end..8 * length {
+            let one = with(&packet, bit, 1, 1);
+            assert_eq!(turnouts_into(0, &one), (5, bit as u32));
+            let all = with(&one, bit, 8 * length - bit, u32::MAX);
+            assert_eq!(read_turnouts(&all), (5, bit as u32));
+        }
+    }
+}
+
+/// From wholly wrong to sound: each step mends what was told. The length is judged over all turnouts before any speed.
+#[test]
+fn the_place_in_turnouts_is_that_of_the_ground_judged_first() {
+    let told = |packet: &[u8]| turnouts_into(14, packet);
+    let (sound, starts) = turnout_packet(&[[31, 0, 0], [6, 1_200, 400], [31, 0, 0]]);
+    assert_eq!((sound.len(), starts), (7, vec![13, 18, 50, 55]));
+    let wrong = with(&with(&with(&sound, 13, 5, 0), 50, 5, 19), 55, 1, 1);
+    assert_eq!(told(&with(&wrong, 0, 11, 8 << 7 | 1)[..1]), (1, 0));
+    assert_eq!(told(&with(&wrong, 0, 11, 8 << 7 | 1)), (2, 0));
+    assert_eq!(told(&with(&wrong, 4, 7, 1)), (3, 4));
+    assert_eq!(told(&wrong[..6]), (1, 0));
+    // The third has distances that run past the sub-packet.
+    assert_eq!(told(&with(&wrong, 50, 5, 18)), (3, 11));
+    assert_eq!(told(&[&with(&wrong, 4, 7, 8)[..], &[0]].concat()), (3, 11));
+    assert_eq!(told(&wrong), (4, 13));
+    let wrong = with(&wrong, 13, 5, 31);
+    assert_eq!(told(&wrong), (4, 50));
+    let wrong = with(&wrong, 50, 5, 31);
+    assert_eq!(told(&wrong), (5, 55));
+    let mended = with(&wrong, 55, 1, 0);
+    assert_eq!(told(&mended), (1, 0));
+    assert_eq!((read_turnouts(&mended), mended), ((0, 0), sound));
+}
+
+#[test]
+fn lists_of_turnouts_that_cannot_be_written() {
+    for length in 0..=40 {
+        let sound = length % 5 == 0 && length <= 15;
+        assert_eq!(turnouts_written_into(14, &[31, 0, 0, 0, 0].repeat(8)[..length]), if sound { 0 } else { 3 });
+        // Room is judged last, and fields before it.
+        assert_eq!(turnouts_written_into(0, &[31, 0, 0, 0, 0].repeat(8)[..length]), if sound { 1 } else { 3 });
+        assert_eq!(
+            turnouts_written_into(0, &vec![255; length]),
+            if length == 0 {
+                1
+            } else if sound {
+                4
+            } else {
+                3
+            }
+        );
+    }
+    for (distance, release, told) in [(32_767, 4_095, 0), (32_768, 0, 4), (65_535, 0, 4), (0, 4_096, 4), (0, 65_535, 4)]
+    {
+        for speed in [1, 18] {
+            assert_eq!(turnouts_written_into(14, &outside(&[[31, 0, 0], [speed, distance, release]])), told);
+        }
+    }
+    // What is absent is zero, in each of its bits.
+    for bit in 8..40 {
+        let list = with(&[31, 0, 0, 0, 0].repeat(3), 40 + bit, 1, 1);
+        assert_eq!((turnouts_written_into(14, &list), turnouts_written_into(0, &list[5..10])), (4, 4));
+    }
+}
+
+#[test]
+fn turnouts_there_and_back() {
+    let mut chance = Chance(2);
+    for round in 0..4 * 1_000usize {
+        let count = round % 4;
+        let turnouts: Vec<[u32; 3]> = (0..count).map(|_| chance.turnout()).collect();
+        let (list, (packet, _)) = (outside(&turnouts), turnout_packet(&turnouts));
+        let mut output = [0xFF; 16];
+        let written = turnouts::write_turnouts(&list, &mut output);
+        assert_eq!((written.answer, written.turnouts, written.bytes), (0, count, packet.len()));
+        assert_eq!(output[..packet.len()], packet[..]);
+        let mut back = [0xFF; 16];
+        let read = turnouts::read_turnouts(&output, &mut back);
+        assert_eq!((read.answer, read.place, read.turnouts, read.bytes), (0, 0, count, packet.len()));
+        assert_eq!(back[..list.len()], list[..]);
+        assert!(back[list.len()..].iter().chain(&output[packet.len()..]).all(|&byte| byte == 0xFF));
+    }
+}
+
+/// Whatever is accepted, of sub-packets with random bytes behind their header, is written as it was.
+#[test]
+fn turnouts_that_are_read_are_written_as_they_were() {
+    let mut chance = Chance(3);
+    let mut accepted = [0; 4];
+    for _ in 0..200_000 {
+        let length = [2, 3, 3, 4, 6, 7, 7, 10, 11, 14][chance.below(10) as usize];
+        let header = 4 << 9 | length << 2 | chance.below(4);
+        let random: Vec<u8> = (0..length).map(|_| chance.below(256) as u8).collect();
+        // The padding is seldom all zero.
+        let packet = with(&with(&random, 8 * length as usize - 3, 3, 0), 0, 13, header);
+        let (mut list, mut again) = ([7; 15], vec![7; length as usize]);
+        let read = turnouts::read_turnouts(&packet, &mut list);
+        if read.answer == 0 {
+            accepted[read.turnouts] += 1;
+            let written = turnouts::write_turnouts(&list[..5 * read.turnouts], &mut again);
+            assert_eq!((written.answer, written.turnouts, again), (0, read.turnouts, packet));
+        }
+    }
+    assert!(accepted.iter().all(|&times| times > 100), "{accepted:?}");
+}
+
+#[test]
+fn every_place_of_turnouts_is_listed() {
+    let mut places = vec![(2, 0), (3, 4), (3, 11)];
+    places.extend([13, 18, 23, 45, 50, 77].map(|speed| (4, speed)));
+    for padding in [13..16, 18..24, 28..32, 45..48, 50..56, 77..80, 82..88, 109..112] {
+        places.extend(padding.map(|bit| (5, bit)));
+    }
+    assert_eq!(turnouts::places(), places);
+    assert_eq!(places.len(), 3 + 6 + 34);
 }
 
 #[test]
