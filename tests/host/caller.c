@@ -17,7 +17,7 @@
 enum kind {
     START, REQUEST, RELEASE, FLAGS, POSITION, AUTHORITY, DANGER, SOS, CLEAR, STEP_BACK,
     COUNTER, KEPT, IS_TAKEN, END, TRAIN,
-    FRAME, READ_GATES, WRITE_GATES, FRAME_AGE, NEXT_MODE, SESSION_SIZE,
+    FRAME, READ_GATES, WRITE_GATES, READ_TURNOUTS, WRITE_TURNOUTS, FRAME_AGE, NEXT_MODE, SESSION_SIZE,
     RUN_RECORD, LONGEST_RECORD,
     FILL = 30, /* the session's bytes are those given */
     POKE = 31, /* byte n[0] of the session is n[1] */
@@ -28,7 +28,7 @@ struct call {
     uint32_t kind;
     uint32_t lent; /* bytes of the session that are lent */
     uint32_t n[5];
-    uint32_t given; /* bytes that follow: flags, a packet or gates */
+    uint32_t given; /* bytes that follow: flags, a packet, gates or turnouts */
     uint32_t room;  /* bytes of the output that are lent */
     uint32_t watch; /* 1 where the session is to be compared with what it was before the call */
 };
@@ -81,27 +81,38 @@ static void put_answer(kb_answer a)
     reply.words[3] = a.third;
 }
 
-static void put_read(kb_gates_read a)
+/* The answer of a call on a sub-packet, with its places, lengths and counts. */
+static void put_sizes(uint32_t answer, size_t first, size_t second, size_t third)
 {
-    reply.words[0] = a.answer;
-    reply.words[1] = word(a.place);
-    reply.words[2] = word(a.gates);
-    reply.words[3] = word(a.bytes);
-}
-
-static void put_written(kb_gates_written a)
-{
-    reply.words[0] = a.answer;
-    reply.words[1] = word(a.gates);
-    reply.words[2] = word(a.bytes);
+    reply.words[0] = answer;
+    reply.words[1] = word(first);
+    reply.words[2] = word(second);
+    reply.words[3] = word(third);
 }
 
 static void put_frame(kb_frame_answer a)
 {
-    reply.words[0] = a.answer;
-    reply.words[1] = word(a.place);
-    reply.words[2] = word(a.offset);
-    reply.words[3] = word(a.length);
+    put_sizes(a.answer, a.place, a.offset, a.length);
+}
+
+static void put_gates_read(kb_gates_read a)
+{
+    put_sizes(a.answer, a.place, a.gates, a.bytes);
+}
+
+static void put_gates_written(kb_gates_written a)
+{
+    put_sizes(a.answer, a.gates, a.bytes, 0);
+}
+
+static void put_turnouts_read(kb_turnouts_read a)
+{
+    put_sizes(a.answer, a.place, a.turnouts, a.bytes);
+}
+
+static void put_turnouts_written(kb_turnouts_written a)
+{
+    put_sizes(a.answer, a.turnouts, a.bytes, 0);
 }
 
 static void put_age(kb_age_answer a)
@@ -194,8 +205,10 @@ static void run(const struct call *c, const uint8_t *given, uint8_t *output)
 {
     switch (c->kind) {
     case FRAME: put_frame(kb_frame(given, c->given)); break;
-    case READ_GATES: put_read(kb_read_gates(given, c->given, output, c->room)); break;
-    case WRITE_GATES: put_written(kb_write_gates(given, c->given, output, c->room)); break;
+    case READ_GATES: put_gates_read(kb_read_gates(given, c->given, output, c->room)); break;
+    case WRITE_GATES: put_gates_written(kb_write_gates(given, c->given, output, c->room)); break;
+    case READ_TURNOUTS: put_turnouts_read(kb_read_turnouts(given, c->given, output, c->room)); break;
+    case WRITE_TURNOUTS: put_turnouts_written(kb_write_turnouts(given, c->given, output, c->room)); break;
     case FRAME_AGE: put_age(kb_frame_age(c->n[0], c->n[1])); break;
     case NEXT_MODE: put_step(kb_next_mode(c->n[0], given, c->given)); break;
     case SESSION_SIZE: reply.words[0] = word(kb_session_size()); break;

@@ -4,7 +4,7 @@ use crate::wire::{Call, Kind, Reply, PATTERN, SESSION, WORDS};
 use bench_model::recording::{self, run_first, Run};
 use bench_model::session::{Answer, Pair, Session, NONE};
 use bench_model::train::Train;
-use bench_model::{clock, modes, packets};
+use bench_model::{clock, modes, packets, turnouts};
 
 const WRONG_LENGTH: u32 = 34;
 const MOST_RECORDS: u32 = u32::MAX;
@@ -160,6 +160,14 @@ fn without_session(call: &Call) -> Expected {
         Kind::WriteGates => {
             let written = packets::write_gates(&call.given, &mut output);
             Expected::told(&[written.answer, written.gates as u32, written.bytes as u32], output)
+        }
+        Kind::ReadTurnouts => {
+            let read = turnouts::read_turnouts(&call.given, &mut output);
+            Expected::told(&[read.answer, read.place, read.turnouts as u32, read.bytes as u32], output)
+        }
+        Kind::WriteTurnouts => {
+            let written = turnouts::write_turnouts(&call.given, &mut output);
+            Expected::told(&[written.answer, written.turnouts as u32, written.bytes as u32], output)
         }
         Kind::FrameAge => {
             let age = clock::frame_age(a, b);

@@ -11,20 +11,23 @@
 mod calls;
 mod cases;
 mod expected;
+mod gates;
 mod packets;
 mod random;
 mod records;
+mod turnouts;
 mod wire;
 
 use bench_model::header::defined;
 use bench_model::modes::FLAGS;
-use bench_model::packets::{places, COUNT, GATE_BITS, GATE_BYTES, HEADER_BITS, LENGTH};
+use bench_model::packets::{self as model_gates, COUNT, LENGTH};
 use bench_model::recording::LONGEST;
 use bench_model::session::{ROWS, SLOTS};
+use bench_model::turnouts as model_turnouts;
 use calls::Calls;
 use cases::Case;
 use expected::Expected;
-use packets::JUDGED;
+use gates::JUDGED;
 use std::collections::{BTreeMap, BTreeSet};
 use std::io::{BufReader, Read, Write};
 use std::process::{ChildStdin, ChildStdout, Command, ExitCode, Stdio};
@@ -38,7 +41,7 @@ const WATCHED: usize = 10;
 type Batch = Vec<(Call, Expected)>;
 
 /// Every answer number that a call can give. A run of a million calls or more must have seen each, must have called each function and
-/// must have met each place that a refused gate read can tell.
+/// must have met each place that a refused read of gates, and one of turnouts, can tell.
 const ANSWERS: [u32; 22] = [0, 1, 2, 3, 4, 5, 10, 11, 12, 13, 14, 15, 16, 17, 18, 19, 20, 21, 22, 23, 24, 34];
 
 /// The numbers that the header defines besides the session's size are the model's, or those by which packets are damaged.
@@ -46,18 +49,26 @@ const _: () = assert!(
     defined("#define KB_ROWS ") == ROWS as u32
         && defined("#define KB_SLOTS ") == SLOTS
         && defined("#define KB_FLAGS ") == FLAGS as u32
-        && defined("#define KB_GATE_SIZE ") == GATE_BYTES as u32
-        && defined("#define KB_MOST_GATES ") == packets::MOST_GATES
-        && defined("#define KB_PACKET_SIZE ") == packets::PACKET as u32
+        && defined("#define KB_GATE_SIZE ") == model_gates::GATE_BYTES as u32
+        && defined("#define KB_MOST_GATES ") == gates::MOST_GATES
+        && defined("#define KB_PACKET_SIZE ") == gates::PACKET as u32
+        && defined("#define KB_TURNOUT_SIZE ") == model_turnouts::TURNOUT_BYTES as u32
+        && defined("#define KB_MOST_TURNOUTS ") == model_turnouts::MOST_TURNOUTS as u32
+        && defined("#define KB_TURNOUT_PACKET_SIZE ") == turnouts::PACKET as u32
         && defined("#define KB_LONGEST_RECORD ") == LONGEST as u32
         && defined("#define KB_LENGTH_AT ") == LENGTH as u32
         && defined("#define KB_COUNT_AT ") == COUNT as u32
-        && defined("#define KB_FIRST_GATE_AT ") == HEADER_BITS as u32
-        && defined("#define KB_GATE_BITS ") == GATE_BITS as u32
+        && defined("#define KB_FIRST_GATE_AT ") == model_gates::HEADER_BITS as u32
+        && defined("#define KB_GATE_BITS ") == model_gates::GATE_BITS as u32
         && defined("#define KB_NUMBER_AT ") == JUDGED[0].0 as u32
         && defined("#define KB_SUFFIX_AT ") == JUDGED[1].0 as u32
         && defined("#define KB_CLASS_AT ") == JUDGED[2].0 as u32
         && defined("#define KB_WHISTLING_TYPE_AT ") == JUDGED[3].0 as u32
+        && defined("#define KB_FIRST_TURNOUT_AT ") == model_turnouts::HEADER_BITS as u32
+        && defined("#define KB_SPEED_BITS ") == model_turnouts::SPEED_BITS as u32
+        && defined("#define KB_TURNOUT_BITS ") == model_turnouts::TURNOUT_BITS as u32
+        && defined("#define KB_LAST_RESTRICTED ") == *model_turnouts::RESTRICTED.end()
+        && defined("#define KB_UNRESTRICTED ") == model_turnouts::UNRESTRICTED
 );
 
 /// Makes the calls and sends them, each batch first to whoever compares.
@@ -78,6 +89,31 @@ fn send(seed: u64, count: u64, mut caller: ChildStdin, compared: SyncSender<Batc
     }
 }
 
+/// What the reads of one kind have shown.
+#[derive(Default)]
+struct Reads {
+    /// Those of sub-packets that were sound and then changed.
+    damaged: u64,
+    /// Those that were refused with a place that is not 0.
+    placed: u64,
+    /// The answers, each with its place.
+    places: BTreeSet<(u32, u32)>,
+}
+
+impl Reads {
+    fn note(&mut self, call: &Call, answer: u32, place: u32) {
+        self.damaged += u64::from(call.damaged);
+        self.placed += u64::from(place != 0);
+        self.places.insert((answer, place));
+    }
+
+    /// The first of these places that was not met.
+    fn missing(&self, what: &str, places: Vec<(u32, u32)>) -> Option<String> {
+        let place = places.into_iter().find(|place| !self.places.contains(place));
+        place.map(|(answer, bit)| format!("no read of {what} was answered {answer} with place {bit}"))
+    }
+}
+
 /// How often each answer was given, which functions were called, and what else a run is to show.
 #[derive(Default)]
 struct Seen {
@@ -86,13 +122,10 @@ struct Seen {
     foreign: u64,
     /// Frame ages of a station whose number is the lower one.
     over_midnight: u64,
-    /// Gate reads of sub-packets that were sound and then changed.
-    damaged: u64,
-    /// Gate reads and framings that were refused with a place that is not 0.
-    placed_reads: u64,
+    gates: Reads,
+    turnouts: Reads,
+    /// Framings that were refused with a place that is not 0.
     placed_frames: u64,
-    /// The answers of gate reads, each with its place.
-    places: BTreeSet<(u32, u32)>,
     answers: BTreeMap<u32, u64>,
 }
 
@@ -101,12 +134,12 @@ impl Seen {
     fn missing(&self) -> Option<String> {
         let answer = ANSWERS.iter().find(|&answer| !self.answers.contains_key(answer));
         let kind = (0..=Kind::LongestRecord as u32).find(|kind| !self.kinds.contains(kind));
-        let place = places().into_iter().find(|place| !self.places.contains(place));
         let answer = answer.map(|answer| format!("no call was answered {answer}"));
         let kind = kind.map(|kind| format!("no call was of kind {kind} (wire.rs names the kinds)"));
-        let place = place.map(|(answer, bit)| format!("no gate read was answered {answer} with place {bit}"));
+        let gates = self.gates.missing("gates", model_gates::places());
+        let turnouts = self.turnouts.missing("turnouts", model_turnouts::places());
         let frame = (self.placed_frames == 0).then(|| "no framing was refused with a place that is not 0".into());
-        answer.or(kind).or(place).or(frame)
+        answer.or(kind).or(gates).or(turnouts).or(frame)
     }
 
     fn note(&mut self, call: &Call, expected: &Expected, reply: &Reply) {
@@ -127,11 +160,8 @@ impl Seen {
         match call.kind {
             Kind::FrameAge => self.over_midnight += u64::from(call.n[0] < call.n[1] && answer == 0),
             Kind::Frame => self.placed_frames += u64::from(place != 0),
-            Kind::ReadGates => {
-                self.damaged += u64::from(call.damaged);
-                self.placed_reads += u64::from(place != 0);
-                self.places.insert((answer, place));
-            }
+            Kind::ReadGates => self.gates.note(call, answer, place),
+            Kind::ReadTurnouts => self.turnouts.note(call, answer, place),
             _ => {}
         }
     }
@@ -241,9 +271,10 @@ fn run_random(seed: u64, count: u64, command: &[String]) -> Result<(), String> {
     println!("host: answers {}", listed.join(", "));
     println!("host: {} of the frame ages over midnight", seen.over_midnight);
     println!(
-        "host: {} gate reads and {} framings refused with a place that is not 0; {} gate reads of damaged packets",
-        seen.placed_reads, seen.placed_frames, seen.damaged
+        "host: {} gate reads, {} turnout reads and {} framings refused with a place that is not 0",
+        seen.gates.placed, seen.turnouts.placed, seen.placed_frames
     );
+    println!("host: {} gate reads and {} turnout reads of damaged packets", seen.gates.damaged, seen.turnouts.damaged);
     println!(
         "host: {} calls tried with seed {seed}, {} of them on foreign sessions: no difference",
         seen.calls, seen.foreign

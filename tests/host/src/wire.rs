@@ -33,6 +33,8 @@ pub enum Kind {
     Frame,
     ReadGates,
     WriteGates,
+    ReadTurnouts,
+    WriteTurnouts,
     FrameAge,
     NextMode,
     SessionSize,
