@@ -34,6 +34,23 @@ pub struct GatesWritten {
 
 #[repr(C)]
 #[derive(Clone, Copy, Default)]
+pub struct TurnoutsRead {
+    pub answer: u32,
+    pub place: usize,
+    pub turnouts: usize,
+    pub bytes: usize,
+}
+
+#[repr(C)]
+#[derive(Clone, Copy, Default)]
+pub struct TurnoutsWritten {
+    pub answer: u32,
+    pub turnouts: usize,
+    pub bytes: usize,
+}
+
+#[repr(C)]
+#[derive(Clone, Copy, Default)]
 pub struct AgeAnswer {
     pub answer: u32,
     pub age: u32,
@@ -75,6 +92,20 @@ extern "C" {
         bytes: *mut u8,
         bytes_len: usize,
     ) -> *mut GatesWritten;
+    fn kb_read_turnouts(
+        to: *mut TurnoutsRead,
+        bytes: *const u8,
+        bytes_len: usize,
+        turnouts: *mut u8,
+        turnouts_len: usize,
+    ) -> *mut TurnoutsRead;
+    fn kb_write_turnouts(
+        to: *mut TurnoutsWritten,
+        turnouts: *const u8,
+        turnouts_len: usize,
+        bytes: *mut u8,
+        bytes_len: usize,
+    ) -> *mut TurnoutsWritten;
     fn kb_frame_age(to: *mut AgeAnswer, station: u32, onboard: u32) -> *mut AgeAnswer;
     fn kb_next_mode(mode: u32, flags: *const u8, flags_len: usize) -> Answer;
     fn kb_start(session: *mut u8, len: usize) -> Answer;
@@ -113,6 +144,18 @@ pub fn read_gates(bytes: &[u8], gates: &mut [u8]) -> GatesRead {
 pub fn write_gates(gates: &[u8], bytes: &mut [u8]) -> GatesWritten {
     let mut to = GatesWritten::default();
     unsafe { kb_write_gates(&mut to, gates.as_ptr(), gates.len(), bytes.as_mut_ptr(), bytes.len()) };
+    to
+}
+
+pub fn read_turnouts(bytes: &[u8], turnouts: &mut [u8]) -> TurnoutsRead {
+    let mut to = TurnoutsRead::default();
+    unsafe { kb_read_turnouts(&mut to, bytes.as_ptr(), bytes.len(), turnouts.as_mut_ptr(), turnouts.len()) };
+    to
+}
+
+pub fn write_turnouts(turnouts: &[u8], bytes: &mut [u8]) -> TurnoutsWritten {
+    let mut to = TurnoutsWritten::default();
+    unsafe { kb_write_turnouts(&mut to, turnouts.as_ptr(), turnouts.len(), bytes.as_mut_ptr(), bytes.len()) };
     to
 }
 

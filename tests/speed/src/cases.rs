@@ -3,7 +3,7 @@
 
 use crate::{archive, peer};
 use bench_model::session::{Pair, Session};
-use bench_model::{clock, modes, packets};
+use bench_model::{clock, modes, packets, turnouts};
 use std::cell::RefCell;
 use std::hint::black_box;
 use std::rc::Rc;
@@ -20,7 +20,7 @@ fn alone(round: impl FnMut() + 'static) -> Rounds {
     Rounds { before: None, round: Box::new(round) }
 }
 
-/// Makes rounds, given a number of gates or trains.
+/// Makes rounds, given a number of gates, turnouts or trains.
 type Maker = fn(u32) -> Rounds;
 /// The same rounds made for the archive and for the model.
 type Makers = (Maker, Maker);
@@ -54,22 +54,22 @@ impl Case {
     }
 }
 
-/// A round that reads a sub-packet of so many gates.
+/// A round that reads a sub-packet of so many gates or turnouts.
 macro_rules! reading {
-    ($read:path) => {
+    ($read:path, $packet:path) => {
         |count| {
-            let (packet, mut gates) = (packet(count), vec![0; 252]);
-            alone(move || assert_eq!($read(black_box(&packet), &mut gates).answer, 0))
+            let (packet, mut list) = ($packet(count), vec![0; 252]);
+            alone(move || assert_eq!($read(black_box(&packet), &mut list).answer, 0))
         }
     };
 }
 
 /// A round that writes one.
 macro_rules! writing {
-    ($write:path) => {
+    ($write:path, $list:path) => {
         |count| {
-            let (gates, mut packet) = (gates(count), vec![0; 125]);
-            alone(move || assert_eq!($write(black_box(&gates), &mut packet).answer, 0))
+            let (list, mut packet) = ($list(count), vec![0; 125]);
+            alone(move || assert_eq!($write(black_box(&list), &mut packet).answer, 0))
         }
     };
 }
@@ -100,6 +100,8 @@ macro_rules! step_back {
 }
 
 const GATE: [u8; 9] = [0x02, 0x8A, 0, 12, 0, 1, 2, 1, 0];
+/// 30 km/h, at 1,200 m with a release distance of 400.
+const TURNOUT: [u8; 5] = [6, 0x04, 0xB0, 0x01, 0x90];
 /// Condition 64 leads from SB to OS, which has a row class.
 const TO_OS: u32 = 64;
 const BYTES: u32 = 54;
@@ -108,13 +110,24 @@ fn flags(conditions: &[u32]) -> Vec<u8> {
     (1..=91).map(|n| u8::from(conditions.contains(&n))).collect()
 }
 
-fn gates(count: u32) -> Vec<u8> {
+fn gate_list(count: u32) -> Vec<u8> {
     GATE.repeat(count as usize)
 }
 
-fn packet(count: u32) -> Vec<u8> {
+fn gate_packet(count: u32) -> Vec<u8> {
     let mut packet = vec![0; 125];
-    let written = packets::write_gates(&gates(count), &mut packet);
+    let written = packets::write_gates(&gate_list(count), &mut packet);
+    packet.truncate(written.bytes);
+    packet
+}
+
+fn turnout_list(count: u32) -> Vec<u8> {
+    TURNOUT.repeat(count as usize)
+}
+
+fn turnout_packet(count: u32) -> Vec<u8> {
+    let mut packet = vec![0; 14];
+    let written = turnouts::write_turnouts(&turnout_list(count), &mut packet);
     packet.truncate(written.bytes);
     packet
 }
@@ -148,25 +161,37 @@ fn model_with(trains: u32) -> (Session, Pair) {
 fn framing() -> Makers {
     (
         |count| {
-            let packet = packet(count);
+            let packet = gate_packet(count);
             alone(move || assert_eq!(archive::frame(black_box(&packet)).length, packet.len()))
         },
         |count| {
-            let packet = packet(count);
+            let packet = gate_packet(count);
             alone(move || assert_eq!(packets::frame(black_box(&packet)).packet.len(), packet.len()))
         },
     )
 }
 
-fn packet_cases() -> Vec<Case> {
-    let read: Makers = (reading!(archive::read_gates), reading!(packets::read_gates));
-    let write: Makers = (writing!(archive::write_gates), writing!(packets::write_gates));
+fn gate_cases() -> Vec<Case> {
+    let read: Makers = (reading!(archive::read_gates, gate_packet), reading!(packets::read_gates, gate_packet));
+    let write: Makers = (writing!(archive::write_gates, gate_list), writing!(packets::write_gates, gate_list));
     let counts = [0, 1, 28];
     let case = |what, count, makers| Case::new(format!("gate {what}, gates: {count}"), count, makers);
-    let reads = counts.map(|count| case("read", count, read).with_peer(reading!(peer::read_gates)));
-    let writes = counts.map(|count| case("write", count, write).with_peer(writing!(peer::write_gates)));
+    let reads = counts.map(|count| case("read", count, read).with_peer(reading!(peer::read_gates, gate_packet)));
+    let writes = counts.map(|count| case("write", count, write).with_peer(writing!(peer::write_gates, gate_list)));
     let frames = [0, 28].map(|count| Case::new(format!("framing, gates: {count}"), count, framing()));
     frames.into_iter().chain(reads).chain(writes).collect()
+}
+
+/// All turnouts have their distances.
+fn turnout_cases() -> Vec<Case> {
+    let read: Makers =
+        (reading!(archive::read_turnouts, turnout_packet), reading!(turnouts::read_turnouts, turnout_packet));
+    let write: Makers =
+        (writing!(archive::write_turnouts, turnout_list), writing!(turnouts::write_turnouts, turnout_list));
+    let case = |what, count, makers| Case::new(format!("turnout {what}, turnouts: {count}"), count, makers);
+    let counts = [0, 3];
+    let reads = counts.map(|count| case("read", count, read));
+    reads.into_iter().chain(counts.map(|count| case("write", count, write))).collect()
 }
 
 fn plain_cases() -> Vec<Case> {
@@ -284,7 +309,8 @@ fn back_cases() -> Vec<Case> {
 }
 
 pub fn all() -> Vec<Case> {
-    let mut cases = packet_cases();
+    let mut cases = gate_cases();
+    cases.extend(turnout_cases());
     cases.extend(plain_cases());
     cases.extend(session_cases(1));
     cases.extend(session_cases(24));
