@@ -1,9 +1,9 @@
 #!/usr/bin/env python3
 """Holds the documents to what they speak of: tests/documents.py
 
-The answer numbers of ANSWERS.md, and the bits of a gate's fields, are those of the C header; the examples of README.md and RECORDING.md are
-what the samples and tools/record give; README.md has every crate, and samples/README.md every sample; every link leads to a file. The exit
-status is 1 where something is not so.
+The answer numbers of ANSWERS.md, the bits of a gate's fields, and the way from a place to a turnout are those of the C header; the examples
+of README.md and RECORDING.md are what the samples and tools/record give; README.md has every crate, and samples/README.md every sample;
+every link leads to a file. The exit status is 1 where something is not so.
 """
 
 import pathlib
@@ -12,6 +12,7 @@ import subprocess
 import sys
 
 ROOT = pathlib.Path(__file__).resolve().parent.parent
+HEADER = ROOT / "include" / "kavach_bench.h"
 DOCS = ROOT / "docs"
 SAMPLES = ROOT / "samples"
 
@@ -28,7 +29,7 @@ def table(path):
 
 def answers():
     """Every number of the header is explained, no other is, and every refusal says what to do."""
-    numbers = re.search(r"enum kb_reason \{(.*?)\};", text(ROOT / "include" / "kavach_bench.h"), re.DOTALL).group(1)
+    numbers = re.search(r"enum kb_reason \{(.*?)\};", text(HEADER), re.DOTALL).group(1)
     given = {int(number) for number in re.findall(r"KB_\w+ = (\d+)", numbers)}
     lines = [line for line in table(DOCS / "ANSWERS.md") if line[0].isdigit()]
     explained = {int(line[0]) for line in lines}
@@ -41,10 +42,19 @@ def answers():
 
 def places():
     """Where a gate's judged fields start is the same in ANSWERS.md as in the header."""
-    defined = re.findall(r"^#define KB_(NUMBER|SUFFIX|CLASS|WHISTLING_TYPE)_AT (\d+)$", text(ROOT / "include" / "kavach_bench.h"), re.MULTILINE)
+    defined = re.findall(r"^#define KB_(NUMBER|SUFFIX|CLASS|WHISTLING_TYPE)_AT (\d+)$", text(HEADER), re.MULTILINE)
     told = [(line[0].upper().replace(" ", "_"), line[1]) for line in table(DOCS / "ANSWERS.md") if len(line) == 3 and line[1].isdigit()]
     if not set(defined) <= set(told) or len(defined) != 4:
         yield "ANSWERS.md and the header have other bits for the fields of a gate"
+
+
+def turnouts():
+    """The way from a place to the turnout whose speed starts there has the header's numbers, in ANSWERS.md and in the header's own words."""
+    numbers = dict(re.findall(r"^#define KB_(\w+) (\d+)$", text(HEADER), re.MULTILINE))
+    first, speed, whole = (int(numbers[name]) for name in ("FIRST_TURNOUT_AT", "SPEED_BITS", "TURNOUT_BITS"))
+    for path in (DOCS / "ANSWERS.md", HEADER):
+        if f"(place - {first}) % {whole - speed} / {speed}" not in text(path):
+            yield f"{path.name} does not tell the turnout of a place by the header's numbers"
 
 
 def first_sample():
@@ -109,7 +119,7 @@ def links():
 
 
 def main():
-    wrong = [problem for part in (answers, places, first_sample, kinds, commands, lists, links) for problem in part()]
+    wrong = [problem for part in (answers, places, turnouts, first_sample, kinds, commands, lists, links) for problem in part()]
     print(*wrong, f"documents: {len(wrong)} differences", sep="\n")
     return 1 if wrong else 0
 
