@@ -1,11 +1,24 @@
-/* A small host: gates are read, and a refusal is said in words; two trains are registered and move, one gets an authority, an SOS
- * limits it, and a step back takes the SOS back. README says how to build and run it. */
+/* A small host: gates are read, turnouts are written and read, and a refusal is said in words; two trains are registered and move, one
+ * gets an authority, an SOS limits it, and a step back takes the SOS back. README says how to build and run it. */
 #include "../include/kavach_bench.h"
 #include <stdio.h>
 #include <stdlib.h>
 #include <string.h>
 
 static kb_session bench;
+
+/* Says why a read of gates or of turnouts was refused, but for which field is not allowed: that differs. */
+static void print_refusal(const char *what, uint32_t answer, size_t place)
+{
+    printf("refused %u at bit %u: ", (unsigned)answer, (unsigned)place);
+    switch (answer) {
+    case KB_TYPE: printf("the type is not that of %s\n", what); break;
+    case KB_LENGTH: printf("the %s\n", place == KB_LENGTH_AT ? "length is below 2" : "count does not fit the length"); break;
+    case KB_FIELD: break;
+    case KB_PADDING: printf("a bit of the padding is set\n"); break;
+    default: printf("bytes are missing\n"); break;
+    }
+}
 
 /* Says which field of which gate starts so many bits behind the first gate's first. Gates are counted from 1, as people do. */
 static void print_field(size_t bit)
@@ -34,14 +47,54 @@ static void print_gates(const uint8_t *packet, size_t length)
         printf("\n");
         return;
     }
-    printf("refused %u at bit %u: ", (unsigned)read.answer, (unsigned)read.place);
-    switch (read.answer) {
-    case KB_TYPE: printf("the type is not that of gates\n"); break;
-    case KB_LENGTH: printf("the %s\n", read.place == KB_LENGTH_AT ? "length is below 2" : "count does not fit the length"); break;
-    case KB_FIELD: print_field(read.place - KB_FIRST_GATE_AT); break;
-    case KB_PADDING: printf("a bit of the padding is set\n"); break;
-    default: printf("bytes are missing\n"); break;
+    print_refusal("gates", read.answer, read.place);
+    if (read.answer == KB_FIELD)
+        print_field(read.place - KB_FIRST_GATE_AT);
+}
+
+/* Says which turnout's speed starts so many bits behind the first turnout's: each one before it takes the bits of a speed, and some
+ * take the bits of the distances besides. */
+static void print_speed(size_t bit)
+{
+    printf("turnout %u, its speed\n", (unsigned)(bit % (KB_TURNOUT_BITS - KB_SPEED_BITS) / KB_SPEED_BITS + 1));
+}
+
+/* Reads a turnout sub-packet, and says what each turnout is, or where it broke. */
+static void print_turnouts(const uint8_t *packet, size_t length)
+{
+    uint8_t turnouts[KB_MOST_TURNOUTS * KB_TURNOUT_SIZE];
+    kb_turnouts_read read = kb_read_turnouts(packet, length, turnouts, sizeof turnouts);
+    size_t i;
+
+    for (i = 0; i < read.turnouts; i++) {
+        const uint8_t *t = turnouts + i * KB_TURNOUT_SIZE;
+        printf("turnout %u: ", (unsigned)(i + 1));
+        if (t[0] == KB_UNRESTRICTED)
+            printf("unrestricted\n");
+        else
+            printf("%u km/h at %u m, release distance %u m\n", t[0] * 5u, t[1] * 256u + t[2], t[3] * 256u + t[4]);
     }
+    if (read.answer != KB_ACCEPTED)
+        print_refusal("turnouts", read.answer, read.place);
+    if (read.answer == KB_FIELD)
+        print_speed(read.place - KB_FIRST_TURNOUT_AT);
+}
+
+/* Writes two turnouts and reads them back; then once more, with a speed that is reserved. */
+static void try_turnouts(void)
+{
+    /* 30 km/h at 1,200 m, with a release distance of 400 m; and unrestricted, which has no distances. */
+    static const uint8_t turnouts[] = {30 / 5, 1200 / 256, 1200 % 256, 400 / 256, 400 % 256, KB_UNRESTRICTED, 0, 0, 0, 0};
+    uint8_t packet[KB_TURNOUT_PACKET_SIZE];
+    kb_turnouts_written written = kb_write_turnouts(turnouts, sizeof turnouts, packet, sizeof packet);
+
+    printf("turnouts written %u, in %u bytes\n", (unsigned)written.turnouts, (unsigned)written.bytes);
+    if (written.answer != KB_ACCEPTED)
+        exit(EXIT_FAILURE);
+    print_turnouts(packet, written.bytes);
+    /* The last byte begins with the last two bits of the second speed: 11111 becomes 11100. */
+    packet[written.bytes - 1] = 0;
+    print_turnouts(packet, written.bytes);
 }
 
 /* Prints an answer, and gives it on. */
@@ -100,6 +153,7 @@ int main(void)
     print_gates(sound, sizeof sound);
     print_gates(padded, sizeof padded);
     print_gates(third, sizeof third);
+    try_turnouts();
     printf("frame age %u\n", (unsigned)kb_frame_age(20, 11).age);
 
     accepted("start", kb_start(KB_LEND(&bench)));
