@@ -19,14 +19,14 @@
  * PLACES. A refused kb_frame, kb_read_gates or kb_read_turnouts also tells in `place` where it broke: the position of the first bit
  * of the field at fault, counted from the start of the sub-packet, whose bit 0 is the top bit of its first byte.
  *   answer 2: 0, the type
- *   answer 3: 4, the length, where it is below 2; 11, the count, where the length is not the one for so many gates or these turnouts
+ *   answer 3: 4, the length, where it is below 2; 11, the count, where the length is not the one for so many gates, or for these turnouts
  *   answer 4: the first field that is not allowed: gate by gate, and in a gate number, suffix, class, whistling type; turnout by
  *             turnout, and in a turnout the speed
  *   answer 5: the first bit of the padding that is set
  *   answer 1, and an accepted call: 0, since no field is at fault
  * FROM A PLACE TO A FIELD, for answer 4 of gates: the gate is (place - 16) / 35, counted from 0, and what is left, (place - 16) % 35,
  * is 15 for its number, 25 for its suffix, 29 for its class, 33 for its whistling type. Of turnouts: the field is a speed, and the
- * turnout is (place - 13) % 27 / 5, counted from 0, since each one before it takes 5 bits, or 27 more where it has distances. So 13 is
+ * turnout is (place - 13) % 27 / 5, counted from 0, since each one before it takes 5 bits, and 27 more where it has distances. So 13 is
  * the first one's, 18 and 45 are the second's, 23, 50 and 77 the third's. The names for these numbers stand below (KB_FIRST_GATE_AT,
  * KB_FIRST_TURNOUT_AT and the others), and examples/host.c says a place in words. The writers tell no place.
  *
