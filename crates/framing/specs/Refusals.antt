@@ -32,7 +32,7 @@ lengthTooSmall = record { number = 3; place = lengthAt }
 abbrev pub cutOff : Refusal  -- fewer bytes than the length says
 cutOff = record { number = 1; place = nowhere }
 
-abbrev pub lengthNotForCount : Refusal  -- a length that is not the one for the count of gates
+abbrev pub lengthNotForCount : Refusal  -- a length that is not the one for the entries that the count says
 lengthNotForCount = record { number = 3; place = countAt }
 
 abbrev pub notAllowed : ℕ → Refusal  -- a field whose value is not allowed, which starts at bit p
@@ -46,11 +46,11 @@ noRoom = record { number = 1; place = nowhere }
 
 -- a writer judges no sub-packet, so its own grounds have no place
 
-abbrev pub notWholeGates : Refusal  -- gates outside a sub-packet that are not 9 bytes each
-notWholeGates = record { number = 3; place = nowhere }
+abbrev pub notWholeEntries : Refusal  -- bytes outside a sub-packet that are no whole entries
+notWholeEntries = record { number = 3; place = nowhere }
 
-abbrev pub tooManyGates : Refusal  -- more gates than a sub-packet may have
-tooManyGates = record { number = 3; place = nowhere }
+abbrev pub tooManyEntries : Refusal  -- more entries than a sub-packet may have
+tooManyEntries = record { number = 3; place = nowhere }
 
 abbrev pub tooWide : Refusal  -- a value too large for its field's width
 tooWide = record { number = 4; place = nowhere }

@@ -51,7 +51,7 @@ pub const CUT_OFF: Refusal = Refusal {
     place: NOWHERE,
 };
 
-// a length that is not the one for the count of gates
+// a length that is not the one for the entries that the count says
 pub const LENGTH_NOT_FOR_COUNT: Refusal = Refusal {
     number: 3,
     place: COUNT_AT,
@@ -63,14 +63,14 @@ pub const NO_ROOM: Refusal = Refusal {
     place: NOWHERE,
 };
 
-// gates outside a sub-packet that are not 9 bytes each
-pub const NOT_WHOLE_GATES: Refusal = Refusal {
+// bytes outside a sub-packet that are no whole entries
+pub const NOT_WHOLE_ENTRIES: Refusal = Refusal {
     number: 3,
     place: NOWHERE,
 };
 
-// more gates than a sub-packet may have
-pub const TOO_MANY_GATES: Refusal = Refusal {
+// more entries than a sub-packet may have
+pub const TOO_MANY_ENTRIES: Refusal = Refusal {
     number: 3,
     place: NOWHERE,
 };

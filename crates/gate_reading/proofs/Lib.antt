@@ -1,3 +1,2 @@
 pub mod ReadingLaws
-pub mod BehindLaws
 pub mod PlaceLaws

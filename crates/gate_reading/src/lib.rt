@@ -1,8 +1,8 @@
 // Gate sub-packets read: everything is judged first, and stored afterwards, so that a refusal changes nothing. In between each gate is kept as the
 // one number that its bits are, so that it is loaded once. `distance` is the width of a gate's distance.
-use fields::search;
 use framing::refusals;
 use framing::refusals::Refusal;
+use profiles::EntriesRead;
 ghost use mathlib.Core.Path.{_≡_};
 ghost use mathlib.Core.List.{[], _∷_};
 ghost use Prim.Native.Nat.{_+_, _*_, _≤_, _<_};
@@ -11,36 +11,13 @@ ghost use lib.Seq.{sets, slice};
 ghost use Rattle.numbers.specs.Fields.{field};
 ghost use Rattle.numbers.specs.Pieces.{times, unpack};
 ghost use Rattle.framing.specs.Refusals.{orElse, unlessRefused};
-ghost use Rattle.gates.specs.Gates.{gateBytes, gateBits, gateRefusal, rulesRefusal};
-ghost use Rattle.gate_reading.specs.Reading.{readAnswer, readInto, refusedFor};
-ghost use Rattle.gate_reading.specs.Steps.{shapeRefusal, firstGates, endRefusal, digits, spread, rulesFrom};
-
-// What a gate read answers: 0 with the gates and the bytes of the sub-packet, or a refusal's number and place with zeros.
-#[repr(C)]
-pub struct GatesRead {
-    pub answer: u32,
-    pub place: usize,
-    pub gates: usize,
-    pub bytes: usize,
-}
+ghost use Rattle.profiles.specs.Profiles.{rulesRefusal};
+ghost use Rattle.profiles.specs.Reading.{endRefusal, readAnswer, readInto};
+ghost use Rattle.gates.specs.Gates.{gateProfile, gateProfileWith, gateBytes, gateBits, bitsWith, gateRefusal};
+ghost use Rattle.gate_reading.specs.Steps.{firstGates, digits, spread, rulesFrom};
 
 // The most gates that a count of 5 bits can say.
 const MOST_COUNTED: usize = 31;
-
-// The refusal that a gate sub-packet gets before its gates are looked at.
-fn shape_refusal(s: &[u8], distance: u8) -> Refusal
-    ensures { λ r. ⌜ r ≡ shapeRefusal distance (now (s .entry)) ⌝ }
-{
-    let head = framing::head_refusal(s, gates::GATE_TYPE, gates::GATE_TYPE);
-    if head.number != refusals::ACCEPTED {
-        return head;
-    }
-    let bits = gates::bits_of(distance, gates::count_of(s) as u32);
-    if framing::length_of(s) != (bits + 7) / 8 {
-        return refusals::LENGTH_NOT_FOR_COUNT;
-    }
-    refusals::NONE
-}
 
 // The bits of the gate at bit p as one number. Its fields are digits of it, counted from the lowest, so that the width of the distance moves none.
 fn gate_at(s: &[u8], p: usize, distance: u8) -> u64
@@ -77,8 +54,8 @@ fn gate_refusal(gate: u64, distance: u8) -> Refusal
 
 // The first of n gates that is refused, or n. Only a number is asked for here, so that the compiler need not tell the fields apart.
 fn first_refused(kept: &[u64], distance: u8, n: usize) -> usize
-    requires { ⌜ (n ≤ 31) × (n ≤ length (now kept)) ⌝ }
-    ensures { λ r. ⌜ (r ≤ n) × (rulesFrom distance (now (kept .entry)) n r ≡ rulesRefusal distance 16 (spread (slice 0 n (now (kept .entry)))) n) ⌝ }
+    requires { ⌜ (8 ≤ distance) × (n ≤ 31) × (n ≤ length (now kept)) ⌝ }
+    ensures { λ r. ⌜ (r ≤ n) × (rulesFrom distance (now (kept .entry)) n r ≡ rulesRefusal (gateProfileWith distance) 16 (spread (slice 0 n (now (kept .entry)))) n) ⌝ }
     ensures { λ r. ⌜ (r < n → gateRefusal distance (digits (getD (now (kept .entry)) r 0)) .number ≡ 0 → ⊥) ⌝ }
 {
     let mut i = 0;
@@ -94,8 +71,8 @@ fn first_refused(kept: &[u64], distance: u8, n: usize) -> usize
 
 // The first refusal of n gates from bit 16 on.
 fn rules_refusal(kept: &[u64], distance: u8, n: usize) -> Refusal
-    requires { ⌜ (n ≤ 31) × (n ≤ length (now kept)) ⌝ }
-    ensures { λ r. ⌜ r ≡ rulesRefusal distance 16 (spread (slice 0 n (now (kept .entry)))) n ⌝ }
+    requires { ⌜ (8 ≤ distance) × (n ≤ 31) × (n ≤ length (now kept)) ⌝ }
+    ensures { λ r. ⌜ r ≡ rulesRefusal (gateProfileWith distance) 16 (spread (slice 0 n (now (kept .entry)))) n ⌝ }
 {
     let i = first_refused(kept, distance, n);
     if i == n {
@@ -106,22 +83,6 @@ fn rules_refusal(kept: &[u64], distance: u8, n: usize) -> Refusal
         number: refusal.number,
         place: gates::bits_of(distance, i as u32) + refusal.place,
     }
-}
-
-// The refusal that a gate sub-packet of n gates, read into `room` bytes, gets behind the gates.
-fn end_refusal(s: &[u8], distance: u8, n: usize, room: usize) -> Refusal
-    requires { ⌜ n ≤ 31 ⌝ }
-    ensures { λ r. ⌜ r ≡ endRefusal distance (now (s .entry)) n room ⌝ }
-{
-    let bits = gates::bits_of(distance, n as u32);
-    let end = 8 * ((bits + 7) / 8);
-    if 0 < fields::read_field(s, bits, end - bits) {
-        return refusals::padding_set(search::first_set(s, bits, end));
-    }
-    if room < gates::GATE_BYTES * n {
-        return refusals::NO_ROOM;
-    }
-    refusals::NONE
 }
 
 // Stores the 9 bytes of a gate from byte `at` on.
@@ -157,7 +118,7 @@ fn fill_gates(kept: &[u64], n: usize, out: &mut [u8])
 // Reads n gates from bit 16 on into `out`, or answers why not. Where there is none, nothing is left that could refuse.
 fn take_gates(s: &[u8], distance: u8, n: usize, out: &mut [u8]) -> Refusal
     requires { ⌜ (8 ≤ distance) × (distance ≤ 15) × (n ≤ 31) ⌝ }
-    ensures { λ r. ⌜ r ≡ orElse (rulesRefusal distance 16 (firstGates distance (now (s .entry)) n) n) (endRefusal distance (now (s .entry)) n (length (now (out .entry)))) ⌝ }
+    ensures { λ r. ⌜ r ≡ orElse (rulesRefusal (gateProfileWith distance) 16 (firstGates distance (now (s .entry)) n) n) (endRefusal (now (s .entry)) (bitsWith distance n) (gateBytes * n) (length (now (out .entry)))) ⌝ }
     ensures { λ r. ⌜ now (out .exit) ≡ unlessRefused (r .number) (sets (now (out .entry)) 0 (firstGates distance (now (s .entry)) n)) (now (out .entry)) ⌝ }
 {
     if n == 0 {
@@ -169,7 +130,8 @@ fn take_gates(s: &[u8], distance: u8, n: usize, out: &mut [u8]) -> Refusal
     if rules.number != refusals::ACCEPTED {
         return rules;
     }
-    let end = end_refusal(s, distance, n, out.len());
+    let bits = gates::bits_of(distance, n as u32) as u32;
+    let end = profiles::end_refusal(s, bits, gates::GATE_BYTES * n, out.len());
     if end.number != refusals::ACCEPTED {
         return end;
     }
@@ -177,36 +139,26 @@ fn take_gates(s: &[u8], distance: u8, n: usize, out: &mut [u8]) -> Refusal
     refusals::NONE
 }
 
-fn refused(refusal: Refusal) -> GatesRead
-    ensures { λ r. ⌜ r ≡ refusedFor refusal ⌝ }
-{
-    GatesRead {
-        answer: refusal.number,
-        place: refusal.place,
-        gates: 0,
-        bytes: 0,
-    }
-}
-
 // Reads the gate sub-packet that `s` begins with into `out`, 9 bytes for each gate. What follows the sub-packet is ignored, and what lies
 // behind the gates in `out` stays.
-pub fn read_gates(s: &[u8], out: &mut [u8]) -> GatesRead
-    ensures { λ r. ⌜ r ≡ readAnswer (now (s .entry)) (now (out .entry)) ⌝ }
-    ensures { λ _. ⌜ now (out .exit) ≡ readInto (now (s .entry)) (now (out .entry)) ⌝ }
+pub fn read_gates(s: &[u8], out: &mut [u8]) -> EntriesRead
+    ensures { λ r. ⌜ r ≡ readAnswer gateProfile (now (s .entry)) (now (out .entry)) ⌝ }
+    ensures { λ _. ⌜ now (out .exit) ≡ readInto gateProfile (now (s .entry)) (now (out .entry)) ⌝ }
 {
-    let shape = shape_refusal(s, gates::DISTANCE_WIDTH);
+    let count = gates::count_of(s);
+    let bits = gates::bits_of(gates::DISTANCE_WIDTH, count as u32) as u32;
+    let shape = profiles::shape_refusal(s, gates::GATE_TYPE, bits);
     if shape.number != refusals::ACCEPTED {
-        return refused(shape);
+        return profiles::refused(shape);
     }
-    let gates = gates::count_of(s);
-    let refusal = take_gates(s, gates::DISTANCE_WIDTH, gates, out);
+    let refusal = take_gates(s, gates::DISTANCE_WIDTH, count, out);
     if refusal.number != refusals::ACCEPTED {
-        return refused(refusal);
+        return profiles::refused(refusal);
     }
-    GatesRead {
+    EntriesRead {
         answer: refusals::ACCEPTED,
         place: refusals::NOWHERE,
-        gates,
+        entries: count,
         bytes: framing::length_of(s),
     }
 }

@@ -2,23 +2,16 @@
 // width of a gate's distance.
 use framing::refusals;
 use framing::refusals::Refusal;
+use profiles::EntriesWritten;
 ghost use mathlib.Core.Path.{_≡_};
 ghost use Prim.Native.Nat.{_+_, _*_, _≤_};
 ghost use lib.ListN.{length, getD, drop};
-ghost use Rattle.numbers.specs.Pieces.{times, pack};
-ghost use Rattle.framing.specs.Refusals.{orElse, untold};
-ghost use Rattle.gates.specs.Gates.{gateBytes, gateWidths, sizeOf, gateRefusal};
-ghost use Rattle.gate_writing.specs.Writing.{written, widthsRefusal, listRefusal, writeRefusal, writeAnswer, writeInto};
+ghost use Rattle.numbers.specs.Pieces.{pack};
+ghost use Rattle.profiles.specs.Profiles.{bytesFor, widthsOf};
+ghost use Rattle.profiles.specs.Writing.{written, entryRefusal, listRefusal, writeRefusal, writeAnswer, writeInto};
+ghost use Rattle.gates.specs.Gates.{gateProfile, gateProfileWith, gateBytes, gateWidths, bitsWith, mostGates};
 
 const MOST_GATES: usize = 28;
-
-// What a gate write answers: 0 with the gates and the bytes of the sub-packet, or a refusal's number with zeros.
-#[repr(C)]
-pub struct GatesWritten {
-    pub answer: u32,
-    pub gates: usize,
-    pub bytes: usize,
-}
 
 fn wide(x: u8) -> u32
     ensures { λ r. ⌜ (r ≡ x) × (r ≤ 255) ⌝ }
@@ -38,8 +31,8 @@ fn pair_at(list: &[u8], i: usize) -> u32
 // is as wide as its piece, and the rules allow no number, suffix, class or whistling type as high as a value that is too wide. A
 // rule's place is left out: the gate stands in no sub-packet yet.
 fn gate_refusal(list: &[u8], distance: u8, at: usize) -> Refusal
-    requires { ⌜ (distance ≤ 15) × (at + gateBytes ≤ length (now list)) ⌝ }
-    ensures { λ r. ⌜ r ≡ orElse (widthsRefusal (gateWidths distance) (drop at (now (list .entry)))) (untold (gateRefusal distance (drop at (now (list .entry))))) ⌝ }
+    requires { ⌜ (8 ≤ distance) × (distance ≤ 15) × (at + gateBytes ≤ length (now list)) ⌝ }
+    ensures { λ r. ⌜ r ≡ entryRefusal (gateProfileWith distance) (drop at (now (list .entry))) ⌝ }
 {
     let high = distance as usize - numbers::at_most(distance as usize, 8);
     if 1u32 << high <= wide(list[at]) {
@@ -67,8 +60,8 @@ fn gate_refusal(list: &[u8], distance: u8, at: usize) -> Refusal
 // The refusal that the n gates of a list get, a gate at a time: a width and a rule refuse by the same number and tell no place, so that of two
 // gates it does not matter which refuses.
 fn list_refusal(list: &[u8], distance: u8, n: usize) -> Refusal
-    requires { ⌜ (distance ≤ 15) × (gateBytes * n ≤ length (now list)) ⌝ }
-    ensures { λ r. ⌜ r ≡ listRefusal distance (now (list .entry)) n ⌝ }
+    requires { ⌜ (8 ≤ distance) × (distance ≤ 15) × (gateBytes * n ≤ length (now list)) ⌝ }
+    ensures { λ r. ⌜ r ≡ listRefusal (gateProfileWith distance) (now (list .entry)) n ⌝ }
 {
     let mut at = 0;
     let mut i = 0;
@@ -85,15 +78,15 @@ fn list_refusal(list: &[u8], distance: u8, n: usize) -> Refusal
 
 // The refusal that a write of at most `most` gates into `room` bytes gets.
 fn write_refusal(list: &[u8], room: usize, distance: u8, most: usize) -> Refusal
-    requires { ⌜ (distance ≤ 15) × (most ≤ 31) ⌝ }
-    ensures { λ r. ⌜ r ≡ writeRefusal distance most (now (list .entry)) room ⌝ }
+    requires { ⌜ (8 ≤ distance) × (distance ≤ 15) × (most ≤ 31) ⌝ }
+    ensures { λ r. ⌜ r ≡ writeRefusal (gateProfileWith distance) most (now (list .entry)) room ⌝ }
 {
     let n = list.len() / gates::GATE_BYTES;
     if 0 < list.len() % gates::GATE_BYTES {
-        return refusals::NOT_WHOLE_GATES;
+        return refusals::NOT_WHOLE_ENTRIES;
     }
     if most < n {
-        return refusals::TOO_MANY_GATES;
+        return refusals::TOO_MANY_ENTRIES;
     }
     let refusal = list_refusal(list, distance, n);
     if refusal.number != refusals::ACCEPTED {
@@ -132,7 +125,7 @@ fn put_gate(out: &mut [u8], p: usize, distance: u8, list: &[u8], at: usize)
 // Writes the n gates of a list from bit 16 on.
 fn put_gates(out: &mut [u8], distance: u8, list: &[u8], n: usize)
     requires { ⌜ (8 ≤ distance) × (distance ≤ 15) × (n ≤ 31) × (gateBytes * n ≤ length (now list)) ⌝ }
-    ensures { λ _. ⌜ now (out .exit) ≡ pack (now (out .entry)) 16 (times n (gateWidths distance)) (now (list .entry)) ⌝ }
+    ensures { λ _. ⌜ now (out .exit) ≡ pack (now (out .entry)) 16 (widthsOf (gateProfileWith distance) (now (list .entry)) n) (now (list .entry)) ⌝ }
 {
     let mut p = 16;
     let mut at = 0;
@@ -149,8 +142,8 @@ fn put_gates(out: &mut [u8], distance: u8, list: &[u8], n: usize)
 // stands there is written.
 fn put_packet(out: &mut [u8], distance: u8, list: &[u8], n: usize) -> usize
     requires { ⌜ (8 ≤ distance) × (distance ≤ 15) × (n ≤ 31) × (length (now list) ≡ gateBytes * n) ⌝ }
-    ensures { λ r. ⌜ r ≡ sizeOf distance n ⌝ }
-    ensures { λ _. ⌜ now (out .exit) ≡ written distance (now (list .entry)) (now (out .entry)) ⌝ }
+    ensures { λ r. ⌜ r ≡ bytesFor (bitsWith distance n) ⌝ }
+    ensures { λ _. ⌜ now (out .exit) ≡ written (gateProfileWith distance) (now (list .entry)) (now (out .entry)) ⌝ }
 {
     let count = n as u32;
     let bytes = (gates::bits_of(distance, count) + 7) / 8;
@@ -165,23 +158,19 @@ fn put_packet(out: &mut [u8], distance: u8, list: &[u8], n: usize) -> usize
 }
 
 // Writes the gates of `list`, 9 bytes for each, as a sub-packet from the start of `out`. What lies behind it in `out` stays.
-pub fn write_gates(list: &[u8], out: &mut [u8]) -> GatesWritten
-    ensures { λ r. ⌜ r ≡ writeAnswer (now (list .entry)) (now (out .entry)) ⌝ }
-    ensures { λ _. ⌜ now (out .exit) ≡ writeInto (now (list .entry)) (now (out .entry)) ⌝ }
+pub fn write_gates(list: &[u8], out: &mut [u8]) -> EntriesWritten
+    ensures { λ r. ⌜ r ≡ writeAnswer gateProfile mostGates (now (list .entry)) (now (out .entry)) ⌝ }
+    ensures { λ _. ⌜ now (out .exit) ≡ writeInto gateProfile mostGates (now (list .entry)) (now (out .entry)) ⌝ }
 {
     let judged = write_refusal(list, out.len(), gates::DISTANCE_WIDTH, MOST_GATES);
     if judged.number != refusals::ACCEPTED {
-        return GatesWritten {
-            answer: judged.number,
-            gates: 0,
-            bytes: 0,
-        };
+        return profiles::not_written(judged);
     }
-    let gates = list.len() / gates::GATE_BYTES;
-    let bytes = put_packet(out, gates::DISTANCE_WIDTH, list, gates);
-    GatesWritten {
+    let entries = list.len() / gates::GATE_BYTES;
+    let bytes = put_packet(out, gates::DISTANCE_WIDTH, list, entries);
+    EntriesWritten {
         answer: refusals::ACCEPTED,
-        gates,
+        entries,
         bytes,
     }
 }

@@ -1,10 +1,10 @@
 -- Gates: their fields inside a sub-packet, their bytes outside it, and what is allowed. `distance` is the width of a gate's distance.
-use Prim.Native.Nat.{ℕ, zero, suc, _+_, _-_, _*_, _/_}
+use Prim.Native.Nat.{ℕ, _+_, _-_, _*_}
 use mathlib.Core.List.{List, [], _∷_}
-use lib.{ListN.getD, ListN.drop, Dec.ltb}
-use Rattle.numbers.specs.Fields.{field}
-use Rattle.framing.specs.Refusals.{countAt, none, notAllowed, refuse, orElse, movedBy}
+use lib.{ListN.getD, Dec.ltb}
+use Rattle.framing.specs.Refusals.{notAllowed, refuse, orElse}
 use Rattle.framing.specs.declared.refusals.Refusal.{Refusal}
+use Rattle.profiles.specs.Profiles.{Profile}
 
 abbrev pub gateType : ℕ  -- the type of a gate sub-packet
 gateType = 3
@@ -17,28 +17,19 @@ gateBytes = 9
 
 -- the pieces of a gate: distance (its high bits, and 8), number (2 and 8), suffix, manning, class, whistling, whistling type.
 -- Outside the sub-packet each piece is a byte
-unfoldable pub gateWidths : ℕ → List ℕ
-gateWidths distance = (distance - 8) ∷ 8 ∷ 2 ∷ 8 ∷ 3 ∷ 1 ∷ 3 ∷ 1 ∷ 2 ∷ []
+abbrev pub behindFirst : List ℕ
+behindFirst = 8 ∷ 2 ∷ 8 ∷ 3 ∷ 1 ∷ 3 ∷ 1 ∷ 2 ∷ []
 
--- the count of gates, the 5 bits behind type and length
-abbrev pub countOf : List ℕ → ℕ
-countOf s = field s countAt 5
+unfoldable pub gateWidths : ℕ → List ℕ
+gateWidths distance = (distance - 8) ∷ behindFirst
 
 -- the bits that a gate takes: 35 with a 15-bit distance
 abbrev pub gateBits : ℕ → ℕ
 gateBits distance = distance + 20
 
 -- the bits of a sub-packet of n gates before its padding
-abbrev pub bitsOf : ℕ → ℕ → ℕ
-bitsOf distance n = 16 + gateBits distance * n
-
--- the bytes of a sub-packet of n gates
-abbrev pub sizeOf : ℕ → ℕ → ℕ
-sizeOf distance n = (bitsOf distance n + 7) / 8
-
--- the bits that fill up the last byte
-abbrev pub paddingBits : ℕ → ℕ → ℕ
-paddingBits distance n = 8 * sizeOf distance n - bitsOf distance n
+abbrev pub bitsWith : ℕ → ℕ → ℕ
+bitsWith distance n = 16 + gateBits distance * n
 
 abbrev pub lastNumber : ℕ  -- the highest number, suffix, class and whistling type that are allowed
 lastNumber = 1022
@@ -78,8 +69,20 @@ gateRules distance number suffix class whistle =
 unfoldable pub gateRefusal : ℕ → List ℕ → Refusal
 gateRefusal distance gate = gateRules distance (getD gate 2 0 * 256 + getD gate 3 0) (getD gate 4 0) (getD gate 6 0) (getD gate 8 0)
 
--- the rules on each of the first n gates of a list, 9 bytes for each, of which the first starts at bit p of the sub-packet
-unfoldable pub rulesRefusal : ℕ → ℕ → List ℕ → ℕ → Refusal
-rulesRefusal distance p list zero = none
-rulesRefusal distance p list (suc n) =
-    orElse (movedBy p (gateRefusal distance list)) (rulesRefusal distance (p + gateBits distance) (drop gateBytes list) n)
+-- gates as a profile: the count has 5 bits, and a gate has the same pieces whatever its first
+abbrev pub gateProfileWith : ℕ → Profile
+gateProfileWith distance = record {
+  kind = gateType;
+  countWidth = 5;
+  pieces = gateBytes;
+  first = distance - 8;
+  others = λ first. behindFirst;
+  rules = gateRefusal distance;
+}
+
+-- those that the bench reads and writes, and the most that it writes
+abbrev pub gateProfile : Profile
+gateProfile = gateProfileWith distanceWidth
+
+abbrev pub mostGates : ℕ
+mostGates = 28

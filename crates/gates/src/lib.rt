@@ -3,7 +3,8 @@ use framing::refusals;
 use framing::refusals::Refusal;
 ghost use mathlib.Core.Path.{_≡_};
 ghost use Prim.Native.Nat.{_+_, _*_, _≤_};
-ghost use Rattle.gates.specs.Gates.{countOf, gateBits, bitsOf, gateRules};
+ghost use Rattle.profiles.specs.Profiles.{countOf};
+ghost use Rattle.gates.specs.Gates.{gateProfile, gateBits, bitsWith, gateRules};
 
 pub const GATE_TYPE: u32 = 3;
 
@@ -42,7 +43,7 @@ const WHISTLE_BEHIND: usize = 18;
 
 // The count of gates that the sub-packet says: the 5 lowest digits of the header's 16.
 pub fn count_of(s: &[u8]) -> usize
-    ensures { λ r. ⌜ (r ≡ countOf (now (s .entry))) × (r ≤ 31) ⌝ }
+    ensures { λ r. ⌜ (r ≡ countOf gateProfile (now (s .entry))) × (r ≤ 31) ⌝ }
 {
     (numbers::half_at(s, 0) % 32) as usize
 }
@@ -56,7 +57,7 @@ pub fn gate_bits(distance: u8) -> usize
 
 // The bits of a sub-packet of n gates before its padding.
 pub fn bits_of(distance: u8, n: u32) -> usize
-    ensures { λ r. ⌜ (r ≡ bitsOf distance n) × (r ≤ 16 + 275 * n) ⌝ }
+    ensures { λ r. ⌜ (r ≡ bitsWith distance n) × (r ≤ 16 + 275 * n) ⌝ }
 {
     16 + gate_bits(distance) * n as usize
 }

@@ -1,13 +1,15 @@
-// What needs no session: a sub-packet's frame, gates read and written, the age of a frame, and the mode step.
+// What needs no session: a sub-packet's frame, gates and turnouts read and written, the age of a frame, and the mode step.
 use clock::FrameAge;
-use gate_reading::GatesRead;
-use gate_writing::GatesWritten;
 use modes::Step;
+use profiles::EntriesRead;
+use profiles::EntriesWritten;
 ghost use mathlib.Core.Path.{_≡_};
 ghost use Rattle.clock.specs.Age.{frameAge};
 ghost use Rattle.modes.specs.Next.{nextStep};
-ghost use Rattle.gate_reading.specs.Reading.{readAnswer, readInto};
-ghost use Rattle.gate_writing.specs.Writing.{writeAnswer, writeInto};
+ghost use Rattle.profiles.specs.Reading.{readAnswer, readInto};
+ghost use Rattle.profiles.specs.Writing.{writeAnswer, writeInto};
+ghost use Rattle.gates.specs.Gates.{gateProfile, mostGates};
+ghost use Rattle.turnouts.specs.Turnouts.{turnoutProfile, mostTurnouts};
 ghost use Rattle.host.specs.Frame.{frameAnswer};
 
 // The refusal of the first sub-packet with its place, and where the sub-packet lies in the lent bytes: from their start on, or nowhere.
@@ -33,19 +35,35 @@ pub extern "C" fn kb_frame(bytes: &[u8]) -> FrameAnswer
 }
 
 #[no_mangle]
-pub extern "C" fn kb_read_gates(bytes: &[u8], gates: &mut [u8]) -> GatesRead
-    ensures { λ r. ⌜ r ≡ readAnswer (now (bytes .entry)) (now (gates .entry)) ⌝ }
-    ensures { λ _. ⌜ now (gates .exit) ≡ readInto (now (bytes .entry)) (now (gates .entry)) ⌝ }
+pub extern "C" fn kb_read_gates(bytes: &[u8], gates: &mut [u8]) -> EntriesRead
+    ensures { λ r. ⌜ r ≡ readAnswer gateProfile (now (bytes .entry)) (now (gates .entry)) ⌝ }
+    ensures { λ _. ⌜ now (gates .exit) ≡ readInto gateProfile (now (bytes .entry)) (now (gates .entry)) ⌝ }
 {
     gate_reading::read_gates(bytes, gates)
 }
 
 #[no_mangle]
-pub extern "C" fn kb_write_gates(gates: &[u8], bytes: &mut [u8]) -> GatesWritten
-    ensures { λ r. ⌜ r ≡ writeAnswer (now (gates .entry)) (now (bytes .entry)) ⌝ }
-    ensures { λ _. ⌜ now (bytes .exit) ≡ writeInto (now (gates .entry)) (now (bytes .entry)) ⌝ }
+pub extern "C" fn kb_write_gates(gates: &[u8], bytes: &mut [u8]) -> EntriesWritten
+    ensures { λ r. ⌜ r ≡ writeAnswer gateProfile mostGates (now (gates .entry)) (now (bytes .entry)) ⌝ }
+    ensures { λ _. ⌜ now (bytes .exit) ≡ writeInto gateProfile mostGates (now (gates .entry)) (now (bytes .entry)) ⌝ }
 {
     gate_writing::write_gates(gates, bytes)
+}
+
+#[no_mangle]
+pub extern "C" fn kb_read_turnouts(bytes: &[u8], turnouts: &mut [u8]) -> EntriesRead
+    ensures { λ r. ⌜ r ≡ readAnswer turnoutProfile (now (bytes .entry)) (now (turnouts .entry)) ⌝ }
+    ensures { λ _. ⌜ now (turnouts .exit) ≡ readInto turnoutProfile (now (bytes .entry)) (now (turnouts .entry)) ⌝ }
+{
+    turnout_reading::read_turnouts(bytes, turnouts)
+}
+
+#[no_mangle]
+pub extern "C" fn kb_write_turnouts(turnouts: &[u8], bytes: &mut [u8]) -> EntriesWritten
+    ensures { λ r. ⌜ r ≡ writeAnswer turnoutProfile mostTurnouts (now (turnouts .entry)) (now (bytes .entry)) ⌝ }
+    ensures { λ _. ⌜ now (bytes .exit) ≡ writeInto turnoutProfile mostTurnouts (now (turnouts .entry)) (now (bytes .entry)) ⌝ }
+{
+    turnout_writing::write_turnouts(turnouts, bytes)
 }
 
 #[no_mangle]

@@ -1,9 +1,12 @@
 // Runs the packet layer's public functions on the cases that standard input holds, and prints a line for each.
-// A case: a kind (1 framing, 2 gates read, 3 gates written), the output's room and the input's length (2 bytes each), and the input.
-// A line: kind, answer, what is told besides, and the whole output afterwards, which held AA before. A read tells place, gates and bytes, a write
-// gates and bytes. Framing tells the place and the sub-packet's length, and prints the sub-packet.
+// A case: a kind (1 framing, 2 gates read, 3 gates written, 4 turnouts read, 5 turnouts written), the output's room and the input's length (2 bytes
+// each), and the input.
+// A line: kind, answer, what is told besides, and the whole output afterwards, which held AA before. A read tells place, entries and bytes, a write
+// entries and bytes. Framing tells the place and the sub-packet's length, and prints the sub-packet.
 use libc::STDIN_FILENO;
 use libc::STDOUT_FILENO;
+use profiles::EntriesRead;
+use profiles::EntriesWritten;
 ghost use mathlib.Core.Path.{_≡_};
 ghost use Prim.Native.Nat.{_<_, _≤_};
 ghost use lib.ListN.{length};
@@ -44,23 +47,41 @@ fn run_frame(s: &[u8]) {
     end_line();
 }
 
-fn run_read(s: &[u8], out: &mut [u8]) {
-    let read = gate_reading::read_gates(s, out);
-    print_kind(2, read.answer);
+fn print_read(kind: usize, read: EntriesRead, out: &[u8]) {
+    print_kind(kind, read.answer);
     print_number(read.place);
-    print_number(read.gates);
+    print_number(read.entries);
     print_number(read.bytes);
     print_bytes(out);
     end_line();
 }
 
-fn run_write(s: &[u8], out: &mut [u8]) {
-    let written = gate_writing::write_gates(s, out);
-    print_kind(3, written.answer);
-    print_number(written.gates);
+fn print_written(kind: usize, written: EntriesWritten, out: &[u8]) {
+    print_kind(kind, written.answer);
+    print_number(written.entries);
     print_number(written.bytes);
     print_bytes(out);
     end_line();
+}
+
+fn read_gates(s: &[u8], out: &mut [u8]) {
+    let read = gate_reading::read_gates(s, out);
+    print_read(2, read, out);
+}
+
+fn write_gates(s: &[u8], out: &mut [u8]) {
+    let written = gate_writing::write_gates(s, out);
+    print_written(3, written, out);
+}
+
+fn read_turnouts(s: &[u8], out: &mut [u8]) {
+    let read = turnout_reading::read_turnouts(s, out);
+    print_read(4, read, out);
+}
+
+fn write_turnouts(s: &[u8], out: &mut [u8]) {
+    let written = turnout_writing::write_turnouts(s, out);
+    print_written(5, written, out);
 }
 
 fn fresh_output() -> [u8; MOST_ROOM]
@@ -87,8 +108,10 @@ fn run_case(s: &[u8]) -> usize
     let kind = numbers::byte_at(s, 0);
     match kind {
         1 => run_frame(&s[start..end]),
-        2 => run_read(&s[start..end], &mut out[..room]),
-        _ => run_write(&s[start..end], &mut out[..room]),
+        2 => read_gates(&s[start..end], &mut out[..room]),
+        3 => write_gates(&s[start..end], &mut out[..room]),
+        4 => read_turnouts(&s[start..end], &mut out[..room]),
+        _ => write_turnouts(&s[start..end], &mut out[..room]),
     }
     next
 }

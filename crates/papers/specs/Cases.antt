@@ -3,8 +3,8 @@
 use mathlib.Core.List.{List, [], _∷_, _++_, foldl}
 use Prim.Native.Nat.{ℕ, _-_}
 use lib.ListN.{replicate, set}
-use Rattle.gates.specs.Gates.{gateBytes}
-use Rattle.gate_reading.specs.{Reading.readAnswer, Reading.readInto, declared.GatesRead.GatesRead}
+use Rattle.profiles.specs.{Reading.readAnswer, Reading.readInto, declared.EntriesRead.EntriesRead}
+use Rattle.gates.specs.Gates.{gateProfile, gateBytes}
 use Rattle.modes.specs.{Flags.flagCount, Next.nextStep, declared.Step.Step}
 use Rattle.kinds.specs.{declared.Loco.Loco, declared.Ticket.Ticket}
 use Rattle.rules.specs.{declared.ruling.Answer.Answer, Rules.Op, Rules.request}
@@ -30,8 +30,8 @@ abbrev pub untouched : List ℕ
 untouched = replicate gateBytes 255
 
 -- the numbers of a gate read's answer: the answer, the place, gates and bytes used
-abbrev pub gateNumbers : GatesRead → List ℕ
-gateNumbers a = a .answer ∷ a .place ∷ a .gates ∷ a .bytes ∷ []
+abbrev pub gateNumbers : EntriesRead → List ℕ
+gateNumbers a = a .answer ∷ a .place ∷ a .entries ∷ a .bytes ∷ []
 
 -- of a mode step's
 abbrev pub stepNumbers : Step → List ℕ
@@ -43,7 +43,7 @@ numbers a = a .answer ∷ a .first ∷ a .second ∷ a .third ∷ []
 
 -- a gate read: the numbers of its answer, and the room afterwards
 abbrev pub read : List ℕ → List ℕ
-read bytes = gateNumbers (readAnswer bytes untouched) ++ readInto bytes untouched
+read bytes = gateNumbers (readAnswer gateProfile bytes untouched) ++ readInto gateProfile bytes untouched
 
 -- a mode step
 abbrev pub step : ℕ → List ℕ → List ℕ

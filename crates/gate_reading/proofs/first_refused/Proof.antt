@@ -4,7 +4,8 @@ use mathlib.Core.Path.{_≡_, _∙_}
 use native.Mathlib.Omega.{arith}
 use lib.Seq.{slice}
 use Rattle.framing.proofs.RefusalLaws.{same-number}
-use Rattle.gates.specs.Gates.{bitsOf, rulesRefusal}
+use Rattle.profiles.specs.Profiles.{rulesRefusal}
+use Rattle.gates.specs.Gates.{gateProfileWith, bitsWith}
 use Rattle.gates.proofs.GateLaws.{bits-suc}
 use Rattle.gate_reading.specs.Steps.{spread, rulesFrom}
 use Rattle.gate_reading.proofs.ReadingLaws.{rules-go}
@@ -13,16 +14,16 @@ use Rattle.gate_reading.proofs.first_refused.Statement.{statement}
 use Rattle.gate_reading.proofs.first_refused.Tie as tie
 
 abbrev Inv-loop : tie.InvT-loop
-Inv-loop kept distance n i₀ i = (i ≤ n) × (rulesFrom distance kept n i ≡ rulesRefusal distance 16 (spread (slice 0 n kept)) n)
+Inv-loop kept distance n i₀ i = (i ≤ n) × (rulesFrom distance kept n i ≡ rulesRefusal (gateProfileWith distance) 16 (spread (slice 0 n kept)) n)
 
 abbrev μ-loop : tie.MeasureT-loop
 μ-loop kept distance n i₀ i = n - i
 
 loop-holds : tie.Need-loop-holds Inv-loop μ-loop
 loop-holds c = let a = c .before .args in
-    let first : bitsOf (a .distance) 0 ≡ 16 = omega arith in
+    let first : bitsWith (a .distance) 0 ≡ 16 = omega arith in
     let all : a .n - 0 ≡ a .n = omega arith in
-    (omega arith, λ j. rulesRefusal (a .distance) (first j) (spread (slice 0 (a .n) (a .kept .now))) (all j))
+    (omega arith, λ j. rulesRefusal (gateProfileWith (a .distance)) (first j) (spread (slice 0 (a .n) (a .kept .now))) (all j))
 
 returns : tie.Need-returns Inv-loop μ-loop
 returns c = (c .before .before .before .before .before .loop .inv, λ l z. c .if1 .taken (same-number (c .before .before .gate-refusal .ensures) ∙ z))
@@ -33,8 +34,8 @@ loop-again c = let called = c .before .before in
     let a = called .before .before .before .before .before .args in
     let less : a .n - (l .i + 1) ≡ a .n - l .i - 1 = omega arith in (
       omega arith,
-      (λ j. rulesRefusal (a .distance) (bits-suc (a .distance) (l .i) j) (spread (slice (l .i + 1) (a .n) (a .kept .now))) (less j))
-          ∙ rules-go (a .kept .now) (l .i) (a .n) (omega arith) (omega arith) (a .distance) (bitsOf (a .distance) (l .i)) (called .gate-refusal .result) (called .gate-refusal .ensures) (c .if1 .left)
+      (λ j. rulesRefusal (gateProfileWith (a .distance)) (bits-suc (a .distance) (l .i) j) (spread (slice (l .i + 1) (a .n) (a .kept .now))) (less j))
+          ∙ rules-go (a .kept .now) (l .i) (a .n) (omega arith) (omega arith) (a .distance) (bitsWith (a .distance) (l .i)) (omega arith) (called .gate-refusal .result) (called .gate-refusal .ensures) (c .if1 .left)
           ∙ l .inv .1,
     )
 

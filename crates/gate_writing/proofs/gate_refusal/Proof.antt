@@ -8,8 +8,10 @@ use lib.ListN.{getD, drop}
 use lib.Pow.{shl-exact}
 use lib.Seq.{getD-drop}
 use Rattle.framing.specs.Refusals.{untold}
-use Rattle.gates.specs.Gates.{gateWidths, gateRules, gateRefusal}
-use Rattle.gate_writing.proofs.WritingLaws.{first-byte, pair-drop, gate-wide, gate-ruled}
+use Rattle.profiles.proofs.WritingLaws.{first-byte, entry-wide}
+use Rattle.gates.specs.Gates.{gateProfileWith, gateRules, gateRefusal}
+use Rattle.gates.proofs.GateLaws.{regular}
+use Rattle.gate_writing.proofs.WritingLaws.{pair-drop, gate-ruled}
 use borrow.Author.Needs.{needs}
 use Rattle.gate_writing.proofs.gate_refusal.Statement.{statement}
 use Rattle.gate_writing.proofs.gate_refusal.Tie as tie
@@ -23,22 +25,19 @@ limit c =
     shl-exact {a = 1} 1 w 32 (omega arith) (omega arith) ∙ one-mul _ ∙ ap (λ (n : ℕ). 2 ^ n) e
 
 returns : tie.Need-returns
-unfolding gateWidths
 returns c =
     let a = c .before .before .before .before .before .args in
-    gate-wide (a .distance) (drop (a .at) (a .list .now)) 0 (omega arith) (omega (arith, limit (c .before .before .before), first-byte (a .list .now) (a .at)))
+    entry-wide (gateProfileWith (a .distance)) (regular (a .distance) (omega arith)) (drop (a .at) (a .list .now)) 0 (omega arith) (omega (arith, limit (c .before .before .before), first-byte (a .list .now) (a .at)))
 
 returns-2 : tie.Need-returns-2
-unfolding gateWidths
 returns-2 c =
     let a = c .before .before .before .before .before .before .before .before .args in
-    gate-wide (a .distance) (drop (a .at) (a .list .now)) 5 (omega arith) (omega (arith, getD-drop (a .at) (a .list .now) 5 0))
+    entry-wide (gateProfileWith (a .distance)) (regular (a .distance) (omega arith)) (drop (a .at) (a .list .now)) 5 (omega arith) (omega (arith, getD-drop (a .at) (a .list .now) 5 0))
 
 returns-3 : tie.Need-returns-3
-unfolding gateWidths
 returns-3 c =
     let a = c .before .before .before .before .before .before .before .before .before .before .before .args in
-    gate-wide (a .distance) (drop (a .at) (a .list .now)) 7 (omega arith) (omega (arith, getD-drop (a .at) (a .list .now) 7 0))
+    entry-wide (gateProfileWith (a .distance)) (regular (a .distance) (omega arith)) (drop (a .at) (a .list .now)) 7 (omega arith) (omega (arith, getD-drop (a .at) (a .list .now) 7 0))
 
 returns-4 : tie.Need-returns-4
 unfolding gateRefusal
@@ -53,7 +52,7 @@ returns-4 c =
     let suffix = c .before .before .before .before .before .wide4 .ensures .0 ∙ sym (piece 4) in
     let number = c .before .before .before .before .before .before .before .pair-at .ensures .0 ∙ pair-drop (a .list .now) (a .at) 2 in
     ap untold (c .gate-rules .ensures ∙ (λ i. gateRules (a .distance) (number i) (suffix i) (class i) (whistle i)))
-    ∙ gate-ruled (a .distance) g byte (omega (arith, limit most, first-byte (a .list .now) (a .at))) (omega (arith, piece 5)) (omega (arith, piece 7))
+    ∙ gate-ruled (a .distance) (omega arith) g byte (omega (arith, limit most, first-byte (a .list .now) (a .at))) (omega (arith, piece 5)) (omega (arith, piece 7))
 
 pub gate-refusal-spec : {M : Type 1} → statement M
 gate-refusal-spec =

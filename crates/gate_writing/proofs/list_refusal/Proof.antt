@@ -3,16 +3,17 @@ use Prim.Native.Nat.{_+_, _-_, _*_, _≤_}
 use mathlib.Core.Path.{_≡_, sym, ap, _∙_}
 use native.Mathlib.Omega.{arith}
 use lib.ListN.{drop}
-use Rattle.gates.specs.Gates.{gateBytes}
-use Rattle.gate_writing.specs.Writing.{listRefusal}
-use Rattle.gate_writing.proofs.WritingLaws.{list-none, list-stop, list-go}
+use Rattle.profiles.specs.Writing.{listRefusal}
+use Rattle.profiles.proofs.WritingLaws.{list-none, list-stop, list-go}
+use Rattle.gates.specs.Gates.{gateProfileWith, gateBytes}
+use Rattle.gates.proofs.GateLaws.{regular}
 use borrow.Author.Needs.{needs}
 use Rattle.gate_writing.proofs.list_refusal.Statement.{statement}
 use Rattle.gate_writing.proofs.list_refusal.Tie as tie
 
 abbrev Inv-loop : tie.InvT-loop
 Inv-loop list distance n at₀ i₀ at i =
-    (i ≤ n) × (at ≡ gateBytes * i) × (listRefusal distance (drop at list) (n - i) ≡ listRefusal distance list n)
+    (i ≤ n) × (at ≡ gateBytes * i) × (listRefusal (gateProfileWith distance) (drop at list) (n - i) ≡ listRefusal (gateProfileWith distance) list n)
 
 abbrev μ-loop : tie.MeasureT-loop
 μ-loop list distance n at₀ i₀ at i = n - i
@@ -20,7 +21,7 @@ abbrev μ-loop : tie.MeasureT-loop
 returns : tie.Need-returns Inv-loop μ-loop
 returns c = let l = c .before .before .before .before .loop in
     let a = c .before .before .before .before .before .before .args in
-    list-stop (a .distance) (a .list .now) (l .at) (a .n - l .i) (c .before .before .gate-refusal .result) (omega arith) (c .before .before .gate-refusal .ensures) (c .if1 .taken)
+    list-stop (gateProfileWith (a .distance)) (regular (a .distance) (omega arith)) (a .list .now) (l .at) (a .n - l .i) (c .before .before .gate-refusal .result) (omega arith) (c .before .before .gate-refusal .ensures) (c .if1 .taken)
     ∙ l .inv .2
 
 loop-again : tie.Need-loop-again Inv-loop μ-loop
@@ -29,8 +30,8 @@ loop-again c = let l = c .before .before .before .before .loop in
     let less : a .n - (l .i + 1) ≡ a .n - l .i - 1 = omega arith in (
       omega arith,
       omega arith,
-      ap (listRefusal (a .distance) (drop (l .at + gateBytes) (a .list .now))) less
-          ∙ list-go (a .distance) (a .list .now) (l .at) (a .n - l .i) (c .before .before .gate-refusal .result) (omega arith) (c .before .before .gate-refusal .ensures) (c .if1 .left)
+      ap (listRefusal (gateProfileWith (a .distance)) (drop (l .at + gateBytes) (a .list .now))) less
+          ∙ list-go (gateProfileWith (a .distance)) (regular (a .distance) (omega arith)) (a .list .now) (l .at) (a .n - l .i) (c .before .before .gate-refusal .result) (omega arith) (c .before .before .gate-refusal .ensures) (c .if1 .left)
           ∙ l .inv .2,
     )
 
@@ -38,7 +39,7 @@ returns-2 : tie.Need-returns-2 Inv-loop μ-loop
 returns-2 c = let l = c .before .loop in
     let a = c .before .before .before .args in
     let e : 0 ≡ a .n - l .i = omega arith in
-    sym (list-none (a .distance) (drop (l .at) (a .list .now))) ∙ ap (listRefusal (a .distance) (drop (l .at) (a .list .now))) e ∙ l .inv .2
+    sym (list-none (gateProfileWith (a .distance)) (regular (a .distance) (omega arith)) (drop (l .at) (a .list .now))) ∙ ap (listRefusal (gateProfileWith (a .distance)) (drop (l .at) (a .list .now))) e ∙ l .inv .2
 
 pub list-refusal-spec : {M : Type 1} → statement M
 list-refusal-spec =

@@ -7,7 +7,8 @@ use lib.ListN.{getD, drop, length-drop}
 use lib.Seq.{getD-drop}
 use Rattle.numbers.specs.Fields.{put}
 use Rattle.gates.specs.Gates.{gateBits}
-use Rattle.gate_writing.proofs.WritingLaws.{first-byte, pair-drop, gateDigits, gate-put}
+use Rattle.profiles.proofs.WritingLaws.{first-byte}
+use Rattle.gate_writing.proofs.WritingLaws.{pair-drop, gateDigits, gate-put}
 use borrow.Author.Needs.{needs}
 use Rattle.gate_writing.proofs.put_gate.Statement.{statement}
 use Rattle.gate_writing.proofs.put_gate.Tie as tie

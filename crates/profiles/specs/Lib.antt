@@ -1,0 +1,4 @@
+pub mod Profiles
+pub mod Reading
+pub mod Places
+pub mod Writing
