@@ -96,6 +96,16 @@ fn small(n: u32) -> usize
     (n % 65536) as usize
 }
 
+fn run_kind(kind: u32, s: &[u8], out: &mut [u8]) {
+    match kind {
+        1 => run_frame(s),
+        2 => read_gates(s, out),
+        3 => write_gates(s, out),
+        4 => read_turnouts(s, out),
+        _ => write_turnouts(s, out),
+    }
+}
+
 // Runs the case that `s` begins with, and answers where the next one starts.
 fn run_case(s: &[u8]) -> usize
     ensures { λ r. ⌜ (0 < r) × (r ≤ 65540) ⌝ }
@@ -105,14 +115,7 @@ fn run_case(s: &[u8]) -> usize
     let start = numbers::at_most(HEADER, end);
     let room = numbers::at_most(small(numbers::half_at(s, 1)), MOST_ROOM);
     let mut out = fresh_output();
-    let kind = numbers::byte_at(s, 0);
-    match kind {
-        1 => run_frame(&s[start..end]),
-        2 => read_gates(&s[start..end], &mut out[..room]),
-        3 => write_gates(&s[start..end], &mut out[..room]),
-        4 => read_turnouts(&s[start..end], &mut out[..room]),
-        _ => write_turnouts(&s[start..end], &mut out[..room]),
-    }
+    run_kind(numbers::byte_at(s, 0), &s[start..end], &mut out[..room]);
     next
 }
 
