@@ -1,14 +1,17 @@
 -- Laws of reading a profile.
 use mathlib.Core.Path.{_≡_, refl, sym, ap, ap₂, _∙_}
 use mathlib.Core.List.{List, [], _∷_, _++_}
-use Prim.Native.Nat.{ℕ, suc, _+_, _*_, _≤_}
-use native.Mathlib.Nat.{zero-add, add-suc}
+use Prim.Native.Nat.{ℕ, suc, _+_, _-_, _*_, _/_, _%_, _^_, _≤_}
+use native.Mathlib.Decide.{ℕ-discrete}
+use native.Mathlib.Nat.{zero-add, add-suc, mod-one, div-one}
 use native.Mathlib.Omega.{arith}
 use borrow.Author.Tests.{ltb-false, eqb-true, not-false}
 use lib.ListN.{length, set, drop}
 use lib.Seq.{sets, sets-eq}
 use Rattle.numbers.specs.Fields.{field}
+use Rattle.numbers.proofs.FieldLaws.{field-zero}
 use Rattle.numbers.proofs.PieceLaws.{length-unpack}
+use Rattle.numbers.proofs.WithinLaws.{field-within}
 use Rattle.framing.specs.Refusals.{orElse, unlessRefused}
 use Rattle.framing.specs.declared.refusals.Refusal.{Refusal}
 use Rattle.framing.specs.Framing.{lengthOf}
@@ -17,6 +20,31 @@ use Rattle.framing.proofs.FramingLaws.{Headed, headed}
 use Rattle.profiles.specs.Profiles.{Profile, countOf, startOf, bytesFor, paddingFor, widthsAt, rulesRefusal}
 use Rattle.profiles.specs.Reading.{entriesOf, bitsOf, shapeRefusal, endRefusal, readRefusal, readWith, refusedFor, readAnswer, readInto}
 use Rattle.profiles.proofs.ProfileLaws.{Regular, length-at}
+
+-- the bits that fill up a byte are its low digits
+abbrev pub padding-width : ℕ → ℕ
+padding-width bits = (8 - bits % 8) % 8
+
+pub padding-byte : (s : List ℕ) (bits : ℕ) → field s (8 * (bits / 8)) 8 % 2 ^ padding-width bits ≡ field s bits (paddingFor bits)
+padding-byte s bits = of (ℕ-discrete (bits % 8) 0)
+  where
+    byte : ℕ
+    byte = field s (8 * (bits / 8)) 8
+
+    width : padding-width bits ≡ paddingFor bits
+    width = omega arith
+
+    of : Dec (bits % 8 ≡ 0) → byte % 2 ^ padding-width bits ≡ field s bits (paddingFor bits)
+    of (yes z) =
+        let none-left : padding-width bits ≡ 0 = omega arith in
+        ap (λ (w : ℕ). byte % 2 ^ w) none-left ∙ mod-one byte ∙ sym (field-zero s bits) ∙ ap (field s bits) (sym none-left ∙ width)
+    of (no nz) =
+        let w : ℕ = padding-width bits in
+        let whole : bits % 8 + w + 0 ≡ 8 = omega arith in
+        let place : 8 * (bits / 8) + bits % 8 ≡ bits = omega arith in
+        ap (λ (x : ℕ). x % 2 ^ w) (sym (div-one byte) ∙ ap (λ (t : ℕ). field s (8 * (bits / 8)) t / 1) (sym whole))
+        ∙ sym (field-within s (8 * (bits / 8)) (bits % 8) w 0)
+        ∙ (λ i. field s (place i) (width i))
 
 -- where nothing refuses before the entries, the length is theirs
 pub shape-right : (kind : ℕ) (s : List ℕ) (bits : ℕ) → shapeRefusal kind s bits .number ≡ 0 → lengthOf s ≡ bytesFor bits

@@ -4,7 +4,8 @@ use fields::search;
 use framing::refusals;
 use framing::refusals::Refusal;
 ghost use mathlib.Core.Path.{_≡_};
-ghost use Rattle.profiles.specs.Profiles.{bytesFor};
+ghost use Rattle.numbers.specs.Fields.{field};
+ghost use Rattle.profiles.specs.Profiles.{bytesFor, paddingFor};
 ghost use Rattle.profiles.specs.Reading.{shapeRefusal, endRefusal, refusedFor};
 ghost use Rattle.profiles.specs.Writing.{notWritten};
 
@@ -46,14 +47,21 @@ pub fn shape_refusal(s: &[u8], kind: u32, bits: u32) -> Refusal
     refusals::NONE
 }
 
+// The bits that fill up the last byte behind so many: its low digits.
+fn padding_of(s: &[u8], bits: u32) -> u32
+    ensures { λ r. ⌜ r ≡ field (now (s .entry)) bits (paddingFor bits) ⌝ }
+{
+    let width = (8 - bits as usize % 8) % 8;
+    numbers::byte_at(s, bits as usize / 8) % (1u32 << width)
+}
+
 // The refusal that it gets behind its entries, where these take `bytes` outside and have `room`.
 pub fn end_refusal(s: &[u8], bits: u32, bytes: usize, room: usize) -> Refusal
     ensures { λ r. ⌜ r ≡ endRefusal (now (s .entry)) bits bytes room ⌝ }
 {
-    let start = bits as usize;
-    let end = 8 * bytes_for(bits);
-    if 0 < fields::read_field(s, start, end - start) {
-        return refusals::padding_set(search::first_set(s, start, end));
+    if 0 < padding_of(s, bits) {
+        let end = 8 * bytes_for(bits);
+        return refusals::padding_set(search::first_set(s, bits as usize, end));
     }
     if room < bytes {
         return refusals::NO_ROOM;
