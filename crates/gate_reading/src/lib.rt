@@ -159,6 +159,6 @@ pub fn read_gates(s: &[u8], out: &mut [u8]) -> EntriesRead
         answer: refusals::ACCEPTED,
         place: refusals::NOWHERE,
         entries: count,
-        bytes: profiles::bytes_for(bits),
+        bytes: framing::length_of(s),
     }
 }

@@ -78,7 +78,7 @@ module _ (f : Profile) (small : Headers f) (s : List ℕ) (n : ℕ) (two : 2 ≤
         ≡ orElse (rulesRefusal f (startOf f) (entriesOf f (take n s)) (countOf f (take n s))) (endRefusal (take n s) (bitsOf f (take n s)) (f .pieces * countOf f (take n s)) room)
     unfolding endRefusal
     rest-front room = λ i. orElse (rulesRefusal f (startOf f) (entries-front i) (sym count-front i))
-      (orElse (padding-front i) (roomRefusal (f .pieces * sym count-front i) room))
+        (orElse (padding-front i) (roomRefusal (f .pieces * sym count-front i) room))
 
   refusal-front : (room : ℕ) → readRefusal f s room ≡ readRefusal f (take n s) room
   unfolding readRefusal shapeRefusal

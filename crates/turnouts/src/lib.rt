@@ -41,33 +41,53 @@ pub fn count_of(s: &[u8]) -> usize
 pub fn is_restricted(speed: u32) -> bool
     ensures { λ r. ⌜ r ≡ isRestricted speed ⌝ }
 {
-    if 1 <= speed { speed <= LAST_RESTRICTED } else { false }
+    if 1 <= speed {
+        speed <= LAST_RESTRICTED
+    } else {
+        false
+    }
 }
 
 // The bits of a turnout behind its speed.
 pub fn bits_behind(speed: u32) -> usize
     ensures { λ r. ⌜ (r ≡ total (behindSpeed speed)) × (r ≤ 27) ⌝ }
 {
-    if is_restricted(speed) { DISTANCES_BITS } else { 0 }
+    if is_restricted(speed) {
+        DISTANCES_BITS
+    } else {
+        0
+    }
 }
 
 // The greatest distance of a turnout with this speed.
 pub fn last_distance(speed: u32) -> u32
     ensures { λ r. ⌜ r ≡ lastDistance speed ⌝ }
 {
-    if is_restricted(speed) { LAST_DISTANCE } else { 0 }
+    if is_restricted(speed) {
+        LAST_DISTANCE
+    } else {
+        0
+    }
 }
 
 // The greatest release distance of a turnout with this speed.
 pub fn last_release(speed: u32) -> u32
     ensures { λ r. ⌜ r ≡ lastRelease speed ⌝ }
 {
-    if is_restricted(speed) { LAST_RELEASE } else { 0 }
+    if is_restricted(speed) {
+        LAST_RELEASE
+    } else {
+        0
+    }
 }
 
 // Whether a speed's code is allowed.
 pub fn is_allowed(speed: u32) -> bool
     ensures { λ r. ⌜ r ≡ isAllowed speed ⌝ }
 {
-    if is_restricted(speed) { true } else { speed == UNRESTRICTED }
+    if is_restricted(speed) {
+        true
+    } else {
+        speed == UNRESTRICTED
+    }
 }

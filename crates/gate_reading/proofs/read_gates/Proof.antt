@@ -1,15 +1,14 @@
 -- `gate_reading::read_gates` meets its contract: the law for each way out.
 use Prim.Native.Nat.{ℕ, _*_}
-use mathlib.Core.Path.{_≡_, sym, ap, _∙_}
+use mathlib.Core.Path.{_≡_, ap, _∙_}
 use mathlib.Core.List.{List}
 use native.Mathlib.Omega.{arith}
 use lib.ListN.{length}
 use lib.Seq.{sets}
 use Rattle.framing.specs.Refusals.{orElse, unlessRefused}
-use Rattle.framing.proofs.RefusalLaws.{same-number}
-use Rattle.profiles.specs.Profiles.{countOf, bytesFor, rulesRefusal}
+use Rattle.profiles.specs.Profiles.{countOf, rulesRefusal}
 use Rattle.profiles.specs.Reading.{entriesOf, bitsOf, shapeRefusal, endRefusal}
-use Rattle.profiles.proofs.ReadingLaws.{shape-right, shape-refused, entries-refused, read-accepted}
+use Rattle.profiles.proofs.ReadingLaws.{shape-refused, entries-refused, read-accepted}
 use Rattle.gates.specs.Gates.{gateType, distanceWidth, gateBytes, gateProfile}
 use Rattle.gates.proofs.GateLaws.{regular}
 use Rattle.gate_reading.proofs.ReadingLaws.{gates-entries, gates-bits, gates-refusal}
@@ -17,15 +16,11 @@ use borrow.Author.Needs.{needs}
 use Rattle.gate_reading.proofs.read_gates.Statement.{statement}
 use Rattle.gate_reading.proofs.read_gates.Tie as tie
 
--- the bits before the padding
-bits-eq : (c : tie.After-bits-of) → c .bits-of .result ≡ bitsOf gateProfile (c .before .before .before .before .args .s .now)
-bits-eq c =
-    c .bits-of .ensures .0
-    ∙ gates-bits distanceWidth (c .before .before .before .before .args .s .now) (omega arith) (c .before .count-of .result) (c .before .count-of .ensures .0)
-
 -- what is judged before the gates
 shape-eq : (c : tie.After-shape-refusal) → c .shape-refusal .result ≡ shapeRefusal gateType (c .before .before .before .before .before .args .s .now) (bitsOf gateProfile (c .before .before .before .before .before .args .s .now))
-shape-eq c = c .shape-refusal .ensures ∙ ap (shapeRefusal gateType (c .before .before .before .before .before .args .s .now)) (bits-eq (c .before))
+shape-eq c = let s : List ℕ = c .before .before .before .before .before .args .s .now in
+    c .shape-refusal .ensures
+    ∙ ap (shapeRefusal gateType s) (c .before .bits-of .ensures .0 ∙ gates-bits distanceWidth s (omega arith) (c .before .before .count-of .result) (c .before .before .count-of .ensures .0))
 
 -- the gates taken, as entries
 abbrev start : tie.After-take-gates → tie.Start
@@ -71,10 +66,7 @@ returns-3 c = let taken = c .before .before .before .before .before in
     let shape = taken .before .before .before .before in
     let a = shape .before .before .before .before .before .args in
     let counted = shape .before .before .count-of in
-    let zs = taken .before .before .if1 .left in
-    let right = shape-right gateType (a .s .now) (bitsOf gateProfile (a .s .now)) (sym (same-number (shape-eq shape)) ∙ zs) in
-    let bytes = c .bytes-for .ensures ∙ ap bytesFor (bits-eq (shape .before)) ∙ sym right in
-    read-accepted gateProfile (a .s .now) (a .out .now) (shape .shape-refusal .result) (shape-eq shape) zs (taken .take-gates .result) (taken .take-gates .last .1 .1 .1 .0) (taken-eq taken) (stored-eq taken) (regular distanceWidth (omega arith)) (c .before .if2 .left) (counted .result) (c .bytes-for .result) (counted .ensures .0) bytes
+    read-accepted gateProfile (a .s .now) (a .out .now) (shape .shape-refusal .result) (shape-eq shape) (taken .before .before .if1 .left) (taken .take-gates .result) (taken .take-gates .last .1 .1 .1 .0) (taken-eq taken) (stored-eq taken) (regular distanceWidth (omega arith)) (c .before .if2 .left) (counted .result) (c .length-of .result) (counted .ensures .0) (c .length-of .ensures .0)
 
 pub read-gates-spec : {M : Type 1} → statement M
 read-gates-spec =
