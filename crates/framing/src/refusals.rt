@@ -1,7 +1,7 @@
 // The grounds of refusal, each with its number and its place: the first bit of the field at fault, counted from the start of the sub-packet, and 0
 // where no field is at fault.
 ghost use mathlib.Core.Path.{_≡_};
-ghost use Rattle.framing.specs.Refusals.{notAllowed, paddingSet};
+ghost use Rattle.framing.specs.Refusals.{notAllowed, paddingSet, orElse};
 
 // A ground that holds, or none.
 pub struct Refusal {
@@ -93,4 +93,15 @@ pub fn padding_set(place: usize) -> Refusal
     ensures { λ r. ⌜ r ≡ paddingSet place ⌝ }
 {
     Refusal { number: 5, place }
+}
+
+// The first refusal, or else the next.
+pub fn or_else(first: Refusal, next: Refusal) -> Refusal
+    ensures { λ r. ⌜ r ≡ orElse first next ⌝ }
+{
+    if first.number == ACCEPTED {
+        next
+    } else {
+        first
+    }
 }

@@ -76,14 +76,9 @@ fn read_refusal(s: &[u8], room: usize) -> Refusal
     let n = turnouts::count_of(s);
     let bits = bits_of(s, n) as u32;
     let shape = profiles::shape_refusal(s, turnouts::TURNOUT_TYPE, bits);
-    if shape.number != refusals::ACCEPTED {
-        return shape;
-    }
     let rules = rules_refusal(s, n);
-    if rules.number != refusals::ACCEPTED {
-        return rules;
-    }
-    profiles::end_refusal(s, bits, turnouts::TURNOUT_BYTES * n, room)
+    let end = profiles::end_refusal(s, bits, turnouts::TURNOUT_BYTES * n, room);
+    refusals::or_else(shape, refusals::or_else(rules, end))
 }
 
 // Stores the 5 bytes of a turnout from byte `at` on.
