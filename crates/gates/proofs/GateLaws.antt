@@ -15,8 +15,11 @@ use Rattle.framing.proofs.RefusalLaws.{tested, tried}
 use Rattle.profiles.specs.Profiles.{countOf, widthsAt, widthsOf}
 use Rattle.profiles.specs.Reading.{bitsOf}
 use Rattle.profiles.specs.Writing.{bitsFor}
+use Rattle.profiles.specs.Promised.{Promised}
 use Rattle.profiles.proofs.ProfileLaws.{Regular, steady-at, steady-of}
-use Rattle.gates.specs.Gates.{gateBytes, gateWidths, gateBits, bitsWith, gateRules, gateRefusal, behindFirst, gateProfileWith}
+use Rattle.profiles.proofs.RoundTrip.{Sayable, Full}
+use Rattle.profiles.proofs.Promise.{promised as every}
+use Rattle.gates.specs.Gates.{gateBytes, gateWidths, gateBits, bitsWith, gateRules, gateRefusal, behindFirst, gateProfileWith, gateProfile, distanceWidth, mostGates}
 use Rattle.numbers.proofs.PieceLaws.{total-times, length-times}
 
 pub total-gate : (distance : ℕ) → 8 ≤ distance → total (gateWidths distance) ≡ gateBits distance
@@ -107,3 +110,18 @@ module _ (distance : ℕ) where
 
     pub bits-for : (list : List ℕ) (n : ℕ) → bitsFor (gateProfileWith distance) list n ≡ bitsWith distance n
     bits-for list n = ap (λ (ws : List ℕ). 16 + total ws) (widths-of list n) ∙ bits-gates distance n wide
+
+-- with the width and the limit that the bench has, the header can say what is written, and no more
+sayable : Sayable gateProfile mostGates
+sayable = record {
+  kinds = omega arith;
+  counts = omega arith;
+  lengths = λ list n few. omega (arith, bits-for distanceWidth (omega arith) list n);
+}
+
+full : Full gateProfile mostGates
+full s short = omega (arith, bits-read distanceWidth (omega arith) s)
+
+-- WHAT IS PROMISED of gates read and written
+pub promised : Promised gateProfile mostGates
+promised = every gateProfile mostGates (regular distanceWidth (omega arith)) (omega arith) sayable full

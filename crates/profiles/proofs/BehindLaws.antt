@@ -127,11 +127,3 @@ module _ (f : Profile) (small : Headers f) where
         unread s more two whole (λ (t : List ℕ). readAnswer f t o) (sym (answer-front f small (s ++ more) (length s) two short enough o)),
         unread s more two whole (λ (t : List ℕ). readInto f t o) (sym (into-front f small (s ++ more) (length s) two short enough o)),
       )
-
-  -- so it may be replaced by any other bytes, more or fewer
-  pub read-replaced : (s a b o : List ℕ) → 2 ≤ length s → lengthOf s ≤ length s
-      → (readAnswer f (s ++ a) o ≡ readAnswer f (s ++ b) o) × (readInto f (s ++ a) o ≡ readInto f (s ++ b) o)
-  read-replaced s a b o two whole =
-      let x = read-unread s a o two whole in
-      let y = read-unread s b o two whole in
-      (x .0 ∙ sym (y .0), x .1 ∙ sym (y .1))

@@ -4,3 +4,4 @@ pub mod BehindLaws
 pub mod PlaceLaws
 pub mod WritingLaws
 pub mod RoundTrip
+pub mod Promise

@@ -12,10 +12,10 @@ use Rattle.numbers.specs.Fields.{field}
 use Rattle.numbers.specs.Pieces.{total, unpack}
 use Rattle.fields.specs.FirstSet.{FirstOf}
 use Rattle.fields.proofs.FirstSetLaws.{first-of}
-use Rattle.framing.specs.Refusals.{lengthAt, countAt, none, orElse, movedBy}
-use Rattle.framing.specs.Framing.{lengthOf}
+use Rattle.framing.specs.Refusals.{lengthAt, countAt, none, lengthNotForCount, orElse, movedBy}
+use Rattle.framing.specs.Framing.{lengthOf, headRefusal}
 use Rattle.framing.specs.declared.refusals.Refusal.{Refusal}
-use Rattle.framing.proofs.RefusalLaws.{same-number, orElse-go, orElse-stop, along, tested, unless-none, unless-some}
+use Rattle.framing.proofs.RefusalLaws.{same-number, orElse-go, orElse-stop, orElse-assoc, differ, along, tested, unless-none, unless-some}
 use Rattle.framing.proofs.FramingLaws.{headed}
 use Rattle.framing.proofs.PlaceLaws.{HeadTold, no-field, head-told, head-zero, head-other, head-few}
 use Rattle.profiles.specs.Profiles.{Profile, countOf, startOf, bytesFor, paddingFor, endAt, widthsAt, rulesRefusal}
@@ -95,6 +95,24 @@ module _ (f : Profile) (reg : Regular f) (s : List ℕ) where
   unfolding rulesRefusal
   rules-told p zero = all-allowed refl
   rules-told p (suc n) = subst (RulesTold p (suc n)) (sym (rules-suc f reg s p n)) (joined p n _ (rules-told (endAt f s p) n))
+
+-- ---- an entry that runs past the sub-packet
+
+-- more entries end no earlier
+further-on : (f : Profile) (s : List ℕ) (p i n : ℕ) → i ≤ n → entryAt f s p i ≤ entryAt f s p n
+unfolding widthsAt total
+further-on f s p zero n h = omega arith
+further-on f s p (suc i) zero h = absurd (omega arith)
+further-on f s p (suc i) (suc n) h =
+    omega (arith, total-suc f s p i, total-suc f s p n, further-on f s (endAt f s p) i n (omega arith))
+
+-- so the length is not the entries'
+pub runs-past : (f : Profile) (s : List ℕ) (room i : ℕ) → headRefusal s (f .kind) (f .kind) .number ≡ 0 → i < countOf f s
+    → 8 * lengthOf s < entryAt f s (startOf f) (suc i) → readRefusal f s room ≡ lengthNotForCount
+unfolding readRefusal shapeRefusal bitsOf
+runs-past f s room i head there past =
+    let end : entryAt f s (startOf f) (suc i) ≤ entryAt f s (startOf f) (countOf f s) = further-on f s (startOf f) (suc i) (countOf f s) (omega arith) in
+    orElse-assoc _ _ _ ∙ orElse-go _ _ head ∙ sym (differ (lengthOf s) (bytesFor (entryAt f s (startOf f) (countOf f s))) _ (λ e. omega (arith, end, past, e)))
 
 -- ---- the whole sub-packet
 

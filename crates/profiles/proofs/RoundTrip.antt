@@ -71,7 +71,7 @@ module _ (f : Profile) (reg : Regular f) where
         let typed : typeOf s ≡ f .kind = omega (arith, g .head .above, g .head .below) in
         λ i. typed i ∷ size-read room g i ∷ n ∷ body-read f s (widthsOf f list n) outside (g .padding) i
 
-  -- WRITING WHAT WAS READ gives the sub-packet again
+  -- writing what was read gives the sub-packet again
   pub write-read : (s o : List ℕ) (room : ℕ) → Bytes s → Bytes o → readRefusal f s room .number ≡ 0
       → lengthOf s ≤ length o → take (lengthOf s) (written f (entriesOf f s) o) ≡ take (lengthOf s) s
   unfolding written
@@ -82,7 +82,7 @@ module _ (f : Profile) (reg : Regular f) where
       rw (count-entries s, ← values-read s room g)
       (round-trip o s (lengthOf s) (packetWidths f (entriesOf f s) (countOf f s)) ho hs whole fits (g .head .whole))
 
-  -- so TWO ACCEPTED SUB-PACKETS with the same entries are the same bytes
+  -- so two accepted sub-packets with the same entries are the same bytes
   pub one-reading : (s t : List ℕ) (room more : ℕ) → Bytes s → Bytes t
       → readRefusal f s room .number ≡ 0 → readRefusal f t more .number ≡ 0 → entriesOf f s ≡ entriesOf f t → take (lengthOf s) s ≡ take (lengthOf t) t
   one-reading s t room more hs ht es et equal =
@@ -245,7 +245,7 @@ module _ (f : Profile) (reg : Regular f) where
         padded = ap (λ (b : ℕ). field s b (paddingFor b)) bits ∙ parts .1;
       }
 
-  -- READING WHAT WAS WRITTEN gives the list again
+  -- reading what was written gives the list again
   pub wrote : (most : ℕ) → Sayable f most → (list o : List ℕ) → writeRefusal f most list (length o) .number ≡ 0 → Wrote f list (written f list o)
   wrote most ok list o e =
       let g = listed f most list (length o) e in
@@ -295,7 +295,7 @@ module _ (f : Profile) (reg : Regular f) where
   read-list s o e =
       ap (take (f .pieces * countOf f s)) (unless-none _ _ _ e) ∙ take-at (entriesOf f s) _ (f .pieces * countOf f s) (length-entries f reg s)
 
-  -- THERE AND BACK: those bytes, written, are accepted with the same entries and bytes, and give the sub-packet again
+  -- there and back: those bytes, written, are accepted with the same entries and bytes, and give the sub-packet again
   pub there-and-back : (most : ℕ) → Full f most → (s o out : List ℕ) → Bytes s → Bytes out → readRefusal f s (length o) .number ≡ 0 → lengthOf s ≤ length out
       → (writeAnswer f most (take (f .pieces * countOf f s) (readInto f s o)) out ≡ writtenWith (readAnswer f s o .entries) (readAnswer f s o .bytes))
       × (take (lengthOf s) (writeInto f most (take (f .pieces * countOf f s) (readInto f s o)) out) ≡ take (lengthOf s) s)
@@ -309,7 +309,7 @@ module _ (f : Profile) (reg : Regular f) where
         ap (take (lengthOf s)) (unless-none _ _ _ w) ∙ write-read f reg s out (length o) hs ho e fits,
       )
 
-  -- AND BACK AND THERE: a sub-packet that was written, read, is accepted with the same entries and bytes, and gives the list again
+  -- and back and there: a sub-packet that was written, read, is accepted with the same entries and bytes, and gives the list again
   pub back-and-there : (most : ℕ) → Sayable f most → (list o out : List ℕ) → writeRefusal f most list (length o) .number ≡ 0 → length list ≤ length out
       → (readAnswer f (writeInto f most list o) out ≡ readWith (writeAnswer f most list o .entries) (writeAnswer f most list o .bytes))
       × (take (length list) (readInto f (writeInto f most list o) out) ≡ list)

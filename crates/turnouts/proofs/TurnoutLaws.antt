@@ -15,8 +15,10 @@ use Rattle.framing.specs.Refusals.{none, notAllowed, refuse}
 use Rattle.framing.specs.declared.refusals.Refusal.{Refusal}
 use Rattle.framing.proofs.RefusalLaws.{tested}
 use Rattle.profiles.specs.Profiles.{widthsFor, widthsOf}
+use Rattle.profiles.specs.Promised.{Promised}
 use Rattle.profiles.proofs.ProfileLaws.{Regular}
 use Rattle.profiles.proofs.RoundTrip.{Sayable, Full}
+use Rattle.profiles.proofs.Promise.{promised as every}
 use Rattle.turnouts.specs.Turnouts.{turnoutProfile, turnoutBytes, mostTurnouts, speedBits, lastRestricted, unrestricted, isRestricted, behindSpeed, lastDistance, lastRelease, isAllowed, turnoutRefusal}
 
 -- what holds of the pieces of either kind of speed, and of what they have room for, holds of those behind any
@@ -83,12 +85,16 @@ few-bits-of list (suc n) =
     omega (arith, total-append (widthsFor turnoutProfile speed) (widthsOf turnoutProfile rest n), few-behind speed, few-bits-of rest n)
 
 -- so the header can say what is written, and no more
-pub sayable : Sayable turnoutProfile mostTurnouts
+sayable : Sayable turnoutProfile mostTurnouts
 sayable = record {
   kinds = omega arith;
   counts = omega arith;
   lengths = λ list n few. omega (arith, few-bits-of list n);
 }
 
-pub full : Full turnoutProfile mostTurnouts
+full : Full turnoutProfile mostTurnouts
 full s short = omega (arith, field-lt s 11 2)
+
+-- WHAT IS PROMISED of turnouts read and written
+pub promised : Promised turnoutProfile mostTurnouts
+promised = every turnoutProfile mostTurnouts regular (omega arith) sayable full
