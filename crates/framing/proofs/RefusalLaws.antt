@@ -5,7 +5,7 @@ use Prim.Native.Nat.{ℕ, zero, suc, _≤_, _<_}
 use native.Mathlib.Omega.{arith}
 use borrow.Author.Tests.{lt-ltb, le-ltb, eq-eqb, ne-eqb}
 use lib.Dec.{ltb, eqb}
-use Rattle.framing.specs.Refusals.{none, refuse, orElse, unlessRefused, untold}
+use Rattle.framing.specs.Refusals.{none, refuse, orElse, unlessRefused}
 use Rattle.framing.specs.declared.refusals.Refusal.{Refusal}
 
 -- what an answer gives where there is no refusal, and where there is one
@@ -130,12 +130,3 @@ clear-refuse t n p = tested Clear t _ (λ e z. absurd (omega arith)) (λ e z. re
 
 pub clear-orElse : (a b : Refusal) → Clear b → Clear (orElse a b)
 clear-orElse a b h = along Clear a b (λ ne z. absurd (ne z)) (λ z. h)
-
--- a chain whose place is untold is the chain of what is untold
-pub untold-orElse : (a b : Refusal) → untold (orElse a b) ≡ orElse (untold a) (untold b)
-unfolding orElse unlessRefused
-untold-orElse a b = of (a .number)
-  where
-    of : (n : ℕ) → untold (unlessRefused n b a) ≡ unlessRefused n (untold b) (untold a)
-    of zero = refl
-    of (suc n) = refl

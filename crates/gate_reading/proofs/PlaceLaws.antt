@@ -15,13 +15,14 @@ use Rattle.numbers.proofs.WithinLaws.{field-within}
 use Rattle.framing.specs.Framing.{lengthOf}
 use Rattle.framing.specs.declared.refusals.Refusal.{Refusal}
 use Rattle.framing.proofs.RefusalLaws.{tested, tried}
-use Rattle.profiles.specs.Profiles.{Profile, countOf}
+use Rattle.fields.specs.FirstSet.{FirstOf}
+use Rattle.profiles.specs.Profiles.{Profile, countOf, paddingFor}
 use Rattle.profiles.specs.Reading.{readAnswer}
 use Rattle.profiles.specs.Places.{entryAt, entryOf, ruledAt, FirstRefused}
 use Rattle.profiles.proofs.PlaceLaws.{Told, answer-told}
-use Rattle.profiles.proofs.PlaceLaws.{place-of-4 as entry-of-4}
-use Rattle.gates.specs.Gates.{gateProfile, gateProfileWith, distanceWidth, gateWidths, gateBits, lastNumber, lastSuffix, lastClass, lastWhistle, gateRules, gateRefusal}
-use Rattle.gates.proofs.GateLaws.{regular, total-gate, widths-at}
+use Rattle.profiles.proofs.PlaceLaws.{place-of-4 as entry-of-4, place-of-5 as padding-of-5}
+use Rattle.gates.specs.Gates.{gateProfile, gateProfileWith, distanceWidth, gateWidths, gateBits, bitsWith, lastNumber, lastSuffix, lastClass, lastWhistle, gateRules, gateRefusal}
+use Rattle.gates.proofs.GateLaws.{regular, total-gate, widths-at, bits-read}
 use Rattle.gate_reading.specs.Places.{Judged, number, suffix, class, whistle, startOf, widthOf, leastOf, mostOf, Allowed, placeOf, valueOf, FirstWrong}
 use Rattle.gate_reading.proofs.ReadingLaws.{gate-digits, digits-ruled}
 
@@ -155,6 +156,13 @@ pub place-of-4 : (distance : ℕ) → 8 ≤ distance → distance ≤ 15 → {s 
 place-of-4 distance wide narrow {s} t e =
     let x = entry-of-4 t e in
     (first-wrong distance wide narrow s 16 _ _ (x .0), x .1)
+
+-- of a 5 it is the first bit that is set behind so many gates as the count says
+pub place-of-5 : (distance : ℕ) → 8 ≤ distance → {s : List ℕ} {r : Refusal} → Told (gateProfileWith distance) s r → r .number ≡ 5
+    → FirstOf s (bitsWith distance (countOf (gateProfileWith distance) s)) (paddingFor (bitsWith distance (countOf (gateProfileWith distance) s))) (r .place) × (r .place < 8 * lengthOf s)
+place-of-5 distance wide {s} {r} t e =
+    let x = padding-of-5 t e in
+    (subst (λ (bits : ℕ). FirstOf s bits (paddingFor bits) (r .place)) (bits-read distance wide s) (x .0), x .1)
 
 -- ALL OF THIS OF THE ANSWER of a gate read, by its number and its place
 pub gates-told : (s o : List ℕ) → Told gateProfile s (record { number = readAnswer gateProfile s o .answer; place = readAnswer gateProfile s o .place })

@@ -57,8 +57,7 @@ fn gate_refusal(list: &[u8], distance: u8, at: usize) -> Refusal
     }
 }
 
-// The refusal that the n gates of a list get, a gate at a time: a width and a rule refuse by the same number and tell no place, so that of two
-// gates it does not matter which refuses.
+// The first refusal of the n gates of a list.
 fn list_refusal(list: &[u8], distance: u8, n: usize) -> Refusal
     requires { ⌜ (8 ≤ distance) × (distance ≤ 15) × (gateBytes * n ≤ length (now list)) ⌝ }
     ensures { λ r. ⌜ r ≡ listRefusal (gateProfileWith distance) (now (list .entry)) n ⌝ }
@@ -82,17 +81,15 @@ fn write_refusal(list: &[u8], room: usize, distance: u8, most: usize) -> Refusal
     ensures { λ r. ⌜ r ≡ writeRefusal (gateProfileWith distance) most (now (list .entry)) room ⌝ }
 {
     let n = list.len() / gates::GATE_BYTES;
-    if 0 < list.len() % gates::GATE_BYTES {
-        return refusals::NOT_WHOLE_ENTRIES;
-    }
-    if most < n {
-        return refusals::TOO_MANY_ENTRIES;
+    let count = profiles::count_refusal(list.len() % gates::GATE_BYTES, n, most);
+    if count.number != refusals::ACCEPTED {
+        return count;
     }
     let refusal = list_refusal(list, distance, n);
     if refusal.number != refusals::ACCEPTED {
         return refusal;
     }
-    if room < (gates::bits_of(distance, n as u32) + 7) / 8 {
+    if room < profiles::bytes_for(gates::bits_of(distance, n as u32) as u32) {
         return refusals::NO_ROOM;
     }
     refusals::NONE
@@ -146,7 +143,7 @@ fn put_packet(out: &mut [u8], distance: u8, list: &[u8], n: usize) -> usize
     ensures { λ _. ⌜ now (out .exit) ≡ written (gateProfileWith distance) (now (list .entry)) (now (out .entry)) ⌝ }
 {
     let count = n as u32;
-    let bytes = (gates::bits_of(distance, count) + 7) / 8;
+    let bytes = profiles::bytes_for(gates::bits_of(distance, count) as u32);
     numbers::put_byte(out, bytes - 1, 0);
     numbers::put_half(
         out,

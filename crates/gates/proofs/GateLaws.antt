@@ -20,15 +20,11 @@ use Rattle.profiles.proofs.ProfileLaws.{Regular, steady-at, steady-of}
 use Rattle.profiles.proofs.RoundTrip.{Sayable, Full}
 use Rattle.profiles.proofs.Promise.{promised as every}
 use Rattle.gates.specs.Gates.{gateBytes, gateWidths, gateBits, bitsWith, gateRules, gateRefusal, behindFirst, gateProfileWith, gateProfile, distanceWidth, mostGates}
-use Rattle.numbers.proofs.PieceLaws.{total-times, length-times}
+use Rattle.numbers.proofs.PieceLaws.{total-times}
 
 pub total-gate : (distance : ℕ) → 8 ≤ distance → total (gateWidths distance) ≡ gateBits distance
 unfolding total gateWidths
 total-gate distance h = omega arith
-
-pub length-gate : (distance : ℕ) → length (gateWidths distance) ≡ gateBytes
-unfolding gateWidths
-length-gate distance = refl
 
 -- the header and n gates take the bits before the padding
 pub bits-gates : (distance n : ℕ) → 8 ≤ distance → 16 + total (times n (gateWidths distance)) ≡ bitsWith distance n
@@ -39,9 +35,6 @@ pub bits-suc : (distance n : ℕ) → bitsWith distance (n + 1) ≡ bitsWith dis
 bits-suc distance n =
     let e : gateBits distance * (n + 1) ≡ gateBits distance * n + gateBits distance = ap (λ (m : ℕ). gateBits distance * m) (add-one n) ∙ mul-suc (gateBits distance) n in
     omega (arith, e)
-
-pub length-pieces : (distance n : ℕ) → length (times n (gateWidths distance)) ≡ gateBytes * n
-length-pieces distance n = length-times n (gateWidths distance) gateBytes (length-gate distance)
 
 -- the gates' bits stay few
 pub product-small : (distance n : ℕ) → distance ≤ 255 → gateBits distance * n ≤ 275 * n

@@ -130,10 +130,6 @@ pub sets-append : (l : List ℕ) (i : ℕ) (xs ys : List ℕ) → sets l i (xs +
 sets-append l i [] ys = rw add-zero
 sets-append l i (x ∷ xs) ys = rw (add-suc, ← suc-add) (sets-append _ (suc i) xs ys)
 
-pub times-suc : (n : ℕ) (ws : List ℕ) → times (suc n) ws ≡ ws ++ times n ws
-unfolding times
-times-suc n ws = refl
-
 pub length-times : (n : ℕ) (ws : List ℕ) (k : ℕ) → length ws ≡ k → length (times n ws) ≡ k * n
 unfolding times
 length-times zero ws k e = sym (mul-zero k)

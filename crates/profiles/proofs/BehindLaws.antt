@@ -8,22 +8,20 @@ use native.Mathlib.Decide.{ℕ-discrete}
 use native.Mathlib.Omega.{arith}
 use lib.Dec.{ltb, eqb}
 use lib.ListN.{length, take, drop}
-use Rattle.numbers.specs.Fields.{field}
 use Rattle.numbers.specs.Pieces.{total, unpack}
 use Rattle.numbers.proofs.FieldLaws.{field-front}
 use Rattle.numbers.proofs.PieceLaws.{unpack-front}
 use Rattle.fields.proofs.FirstSetLaws.{first-front}
 use Rattle.framing.specs.Refusals.{countAt, lengthNotForCount, paddingSet, refuse, orElse, unlessRefused}
-use Rattle.framing.specs.declared.refusals.Refusal.{Refusal}
 use Rattle.framing.specs.Framing.{lengthOf, headRefusal}
 use Rattle.framing.proofs.RefusalLaws.{same-number, differ, orElse-assoc, unless-some}
 use Rattle.framing.proofs.BehindLaws.{length-front, head-front, unread, inside, there}
-use Rattle.profiles.specs.Profiles.{Profile, countOf, startOf, bytesFor, paddingFor, widthsAt, rulesRefusal}
+use Rattle.profiles.specs.Profiles.{Profile, countOf, firstAt, bytesFor, paddingFor, widthsAt, rulesRefusal}
 use Rattle.profiles.specs.Reading.{entriesOf, bitsOf, lengthRefusal, paddingRefusal, roomRefusal, shapeRefusal, endRefusal, readRefusal, readAnswer, readInto, readWith, refusedFor}
 use Rattle.profiles.proofs.ProfileLaws.{widths-agree}
 use Rattle.profiles.proofs.ReadingLaws.{accepted}
 
--- the header has type, length and count
+-- type, length and count lie in the first two bytes
 abbrev pub Headers : Profile → Type 0
 Headers f = f .countWidth ≤ 5
 
@@ -36,22 +34,22 @@ module _ (f : Profile) (small : Headers f) (s : List ℕ) (n : ℕ) (two : 2 ≤
   count-front = field-front s countAt (f .countWidth) n (omega arith)
 
   -- entries that end in these bytes by either reading have the same widths
-  widths-front : bitsOf f s ≤ 8 * n → widthsAt f s (startOf f) (countOf f s) ≡ widthsAt f (take n s) (startOf f) (countOf f (take n s))
+  widths-front : bitsOf f s ≤ 8 * n → widthsAt f s (firstAt f) (countOf f s) ≡ widthsAt f (take n s) (firstAt f) (countOf f (take n s))
   unfolding bitsOf
   widths-front l =
-      widths-agree f s (take n s) (8 * n) (λ p w h. sym (field-front s p w n h)) (startOf f) (countOf f s) l
-      ∙ ap (widthsAt f (take n s) (startOf f)) (sym count-front)
+      widths-agree f s (take n s) (8 * n) (λ p w h. sym (field-front s p w n h)) (firstAt f) (countOf f s) l
+      ∙ ap (widthsAt f (take n s) (firstAt f)) (sym count-front)
 
   bits-front : bitsOf f s ≤ 8 * n → bitsOf f s ≡ bitsOf f (take n s)
   unfolding bitsOf
-  bits-front l = ap (λ (ws : List ℕ). startOf f + total ws) (widths-front l)
+  bits-front l = ap (λ (ws : List ℕ). firstAt f + total ws) (widths-front l)
 
   bits-back : bitsOf f (take n s) ≤ 8 * n → bitsOf f (take n s) ≡ bitsOf f s
   unfolding bitsOf
   bits-back l =
-      ap (λ (ws : List ℕ). startOf f + total ws)
-      (widths-agree f (take n s) s (8 * n) (λ p w h. field-front s p w n h) (startOf f) (countOf f (take n s)) l
-      ∙ ap (widthsAt f s (startOf f)) count-front)
+      ap (λ (ws : List ℕ). firstAt f + total ws)
+      (widths-agree f (take n s) s (8 * n) (λ p w h. field-front s p w n h) (firstAt f) (countOf f (take n s)) l
+      ∙ ap (widthsAt f s (firstAt f)) count-front)
 
   -- a length that is the entries' says where entries and padding end
   module _ (right : lengthOf s ≡ bytesFor (bitsOf f s)) where
@@ -61,8 +59,8 @@ module _ (f : Profile) (small : Headers f) (s : List ℕ) (n : ℕ) (two : 2 ≤
     entries-front : entriesOf f s ≡ entriesOf f (take n s)
     unfolding entriesOf bitsOf
     entries-front =
-        sym (unpack-front s (startOf f) (widthsAt f s (startOf f) (countOf f s)) n ends-in)
-        ∙ ap (unpack (take n s) (startOf f)) (widths-front ends-in)
+        sym (unpack-front s (firstAt f) (widthsAt f s (firstAt f) (countOf f s)) n ends-in)
+        ∙ ap (unpack (take n s) (firstAt f)) (widths-front ends-in)
 
     length-refusal : lengthRefusal s (bitsOf f s) ≡ lengthRefusal (take n s) (bitsOf f (take n s))
     length-refusal = λ i. refuse (not (eqb (sym length-same i) (bytesFor (bits-front ends-in i)))) lengthNotForCount
@@ -74,10 +72,10 @@ module _ (f : Profile) (small : Headers f) (s : List ℕ) (n : ℕ) (two : 2 ≤
         (λ i. refuse (ltb 0 (sym (field-front s p w n (omega arith)) i)) (paddingSet (sym (first-front s p w n (omega arith)) i)))
         ∙ ap (paddingRefusal (take n s)) (bits-front ends-in)
 
-    rest-front : (room : ℕ) → orElse (rulesRefusal f (startOf f) (entriesOf f s) (countOf f s)) (endRefusal s (bitsOf f s) (f .pieces * countOf f s) room)
-        ≡ orElse (rulesRefusal f (startOf f) (entriesOf f (take n s)) (countOf f (take n s))) (endRefusal (take n s) (bitsOf f (take n s)) (f .pieces * countOf f (take n s)) room)
+    rest-front : (room : ℕ) → orElse (rulesRefusal f (firstAt f) (entriesOf f s) (countOf f s)) (endRefusal s (bitsOf f s) (f .pieces * countOf f s) room)
+        ≡ orElse (rulesRefusal f (firstAt f) (entriesOf f (take n s)) (countOf f (take n s))) (endRefusal (take n s) (bitsOf f (take n s)) (f .pieces * countOf f (take n s)) room)
     unfolding endRefusal
-    rest-front room = λ i. orElse (rulesRefusal f (startOf f) (entries-front i) (sym count-front i))
+    rest-front room = λ i. orElse (rulesRefusal f (firstAt f) (entries-front i) (sym count-front i))
         (orElse (padding-front i) (roomRefusal (f .pieces * sym count-front i) room))
 
   refusal-front : (room : ℕ) → readRefusal f s room ≡ readRefusal f (take n s) room

@@ -1,14 +1,12 @@
 -- WHERE A READ SAYS THAT IT BROKE: what its number and its place say together, for any profile.
 use mathlib.Core.Path.{_≡_, refl, sym, ap, subst, _∙_}
-use mathlib.Core.List.{List, _++_}
+use mathlib.Core.List.{List}
 use mathlib.Core.Logic.{_⊎_, inl, inr}
 use Prim.Native.Nat.{ℕ, zero, suc, _+_, _*_, _≤_, _<_}
 use native.Mathlib.Decide.{ℕ-discrete}
 use native.Mathlib.Omega.{arith}
-use borrow.Author.Tests.{ltb-true, eqb-true, not-false}
-use lib.ListN.{length, getD, drop}
-use lib.Seq.{drop-at}
-use Rattle.numbers.specs.Fields.{field}
+use borrow.Author.Tests.{ltb-true}
+use lib.ListN.{length}
 use Rattle.numbers.specs.Pieces.{total, unpack}
 use Rattle.fields.specs.FirstSet.{FirstOf}
 use Rattle.fields.proofs.FirstSetLaws.{first-of}
@@ -18,12 +16,13 @@ use Rattle.framing.specs.declared.refusals.Refusal.{Refusal}
 use Rattle.framing.proofs.RefusalLaws.{same-number, orElse-go, orElse-stop, orElse-assoc, differ, along, tested, unless-none, unless-some}
 use Rattle.framing.proofs.FramingLaws.{headed}
 use Rattle.framing.proofs.PlaceLaws.{HeadTold, no-field, head-told, head-zero, head-other, head-few}
-use Rattle.profiles.specs.Profiles.{Profile, countOf, startOf, bytesFor, paddingFor, endAt, widthsAt, rulesRefusal}
-use Rattle.profiles.specs.Reading.{entriesOf, bitsOf, lengthRefusal, paddingRefusal, shapeRefusal, endRefusal, readRefusal, readAnswer}
+use Rattle.profiles.specs.Profiles.{Profile, countOf, firstAt, bytesFor, paddingFor, endAt, widthsAt, rulesRefusal}
+use Rattle.profiles.specs.Reading.{entriesOf, bitsOf, shapeRefusal, endRefusal, readRefusal, readAnswer}
 use Rattle.profiles.specs.Places.{entryAt, entryOf, ruledAt, FirstRefused}
 use Rattle.profiles.specs.declared.EntriesRead.{EntriesRead}
-use Rattle.profiles.proofs.ProfileLaws.{Regular, at-none, total-suc, entry-long, rules-suc}
+use Rattle.profiles.proofs.ProfileLaws.{Regular, at-none, total-suc, rules-suc}
 use Rattle.profiles.proofs.ReadingLaws.{shape-right}
+use Rattle.profiles.proofs.BehindLaws.{Headers}
 
 -- ---- entry by entry
 
@@ -108,11 +107,11 @@ further-on f s p (suc i) (suc n) h =
 
 -- so the length is not the entries'
 pub runs-past : (f : Profile) (s : List ℕ) (room i : ℕ) → headRefusal s (f .kind) (f .kind) .number ≡ 0 → i < countOf f s
-    → 8 * lengthOf s < entryAt f s (startOf f) (suc i) → readRefusal f s room ≡ lengthNotForCount
+    → 8 * lengthOf s < entryAt f s (firstAt f) (suc i) → readRefusal f s room ≡ lengthNotForCount
 unfolding readRefusal shapeRefusal bitsOf
 runs-past f s room i head there past =
-    let end : entryAt f s (startOf f) (suc i) ≤ entryAt f s (startOf f) (countOf f s) = further-on f s (startOf f) (suc i) (countOf f s) (omega arith) in
-    orElse-assoc _ _ _ ∙ orElse-go _ _ head ∙ sym (differ (lengthOf s) (bytesFor (entryAt f s (startOf f) (countOf f s))) _ (λ e. omega (arith, end, past, e)))
+    let end : entryAt f s (firstAt f) (suc i) ≤ entryAt f s (firstAt f) (countOf f s) = further-on f s (firstAt f) (suc i) (countOf f s) (omega arith) in
+    orElse-assoc _ _ _ ∙ orElse-go _ _ head ∙ sym (differ (lengthOf s) (bytesFor (entryAt f s (firstAt f) (countOf f s))) _ (λ e. omega (arith, end, past, e)))
 
 -- ---- the whole sub-packet
 
@@ -123,7 +122,7 @@ pub data Told (f : Profile) (s : List ℕ) (r : Refusal) : Type 0 where
   -- the length is not the one for the entries
   at-count : r .number ≡ 3 → r .place ≡ countAt → 2 ≤ lengthOf s → Told f s r
   -- an entry is not allowed
-  at-entry : r .number ≡ 4 → FirstRefused f s (startOf f) (countOf f s) (r .place) → r .place < 8 * lengthOf s → Told f s r
+  at-entry : r .number ≡ 4 → FirstRefused f s (firstAt f) (countOf f s) (r .place) → r .place < 8 * lengthOf s → Told f s r
   -- the padding is not zero
   at-padding : r .number ≡ 5 → FirstOf s (bitsOf f s) (paddingFor (bitsOf f s)) (r .place) → r .place < 8 * lengthOf s → Told f s r
 
@@ -138,11 +137,11 @@ module _ (f : Profile) (reg : Regular f) (s : List ℕ) where
       (λ z. tested (Told f s) _ _ (λ e. at-count refl refl (headed s (f .kind) (f .kind) z .long)) (λ e. nothing))
 
   module _ (right : lengthOf s ≡ bytesFor (bitsOf f s)) where
-    by-rules : Told f s (rulesRefusal f (startOf f) (entriesOf f s) (countOf f s))
+    by-rules : Told f s (rulesRefusal f (firstAt f) (entriesOf f s) (countOf f s))
     unfolding entriesOf bitsOf
-    by-rules = of (rules-told f reg s (startOf f) (countOf f s))
+    by-rules = of (rules-told f reg s (firstAt f) (countOf f s))
       where
-        of : {r : Refusal} → RulesTold f reg s (startOf f) (countOf f s) r → Told f s r
+        of : {r : Refusal} → RulesTold f reg s (firstAt f) (countOf f s) r → Told f s r
         of (all-allowed e) = subst (Told f s) (sym e) nothing
         of (one-refused four w inside) = at-entry four w (omega arith)
 
@@ -193,14 +192,14 @@ module _ {f : Profile} {s : List ℕ} {r : Refusal} where
   place-not-zero (at-entry n w in-it) l = omega (arith, w .place)
   place-not-zero (at-padding n w in-it) l = omega (arith, w .from)
 
-  -- of a 3 it is the length or the count, and the count then starts within the sub-packet; of a 4 and a 5 it lies there too
-  pub place-of-3 : Told f s r → r .number ≡ 3 → (r .place ≡ lengthAt) ⊎ ((r .place ≡ countAt) × (countAt + 5 ≤ 8 * lengthOf s))
-  place-of-3 (at-header t) e = inl (head-other t (omega arith))
-  place-of-3 (at-count n p long) e = inr (p, omega arith)
-  place-of-3 (at-entry n w in-it) e = absurd (omega arith)
-  place-of-3 (at-padding n w in-it) e = absurd (omega arith)
+  -- of a 3 it is the length or the count, and the count then lies within the sub-packet; of a 4 and a 5 it lies there too
+  pub place-of-3 : Headers f → Told f s r → r .number ≡ 3 → (r .place ≡ lengthAt) ⊎ ((r .place ≡ countAt) × (firstAt f ≤ 8 * lengthOf s))
+  place-of-3 small (at-header t) e = inl (head-other t (omega arith))
+  place-of-3 small (at-count n p long) e = inr (p, omega arith)
+  place-of-3 small (at-entry n w in-it) e = absurd (omega arith)
+  place-of-3 small (at-padding n w in-it) e = absurd (omega arith)
 
-  pub place-of-4 : Told f s r → r .number ≡ 4 → FirstRefused f s (startOf f) (countOf f s) (r .place) × (r .place < 8 * lengthOf s)
+  pub place-of-4 : Told f s r → r .number ≡ 4 → FirstRefused f s (firstAt f) (countOf f s) (r .place) × (r .place < 8 * lengthOf s)
   place-of-4 (at-header t) e = absurd (omega (arith, head-few t))
   place-of-4 (at-count n p long) e = absurd (omega arith)
   place-of-4 (at-entry n w in-it) e = (w, in-it)

@@ -1,6 +1,6 @@
 -- Laws of the pieces of entries, for any profile.
 use mathlib.Core.Path.{_≡_, refl, sym, ap, _∙_}
-use mathlib.Core.List.{List, [], _∷_, _++_}
+use mathlib.Core.List.{List, [], _++_}
 use mathlib.Core.Logic.{_⊎_}
 use Prim.Native.Nat.{ℕ, zero, suc, _+_, _*_, _≤_, _<_}
 use native.Mathlib.Nat.{mul-zero, mul-suc}
@@ -10,7 +10,6 @@ use lib.Seq.{drop-at}
 use Rattle.numbers.specs.{Fields.field, Pieces.total, Pieces.times, Pieces.unpack}
 use Rattle.numbers.proofs.PieceLaws.{length-unpack, total-append, unpack-append}
 use Rattle.framing.specs.Refusals.{none, orElse, movedBy}
-use Rattle.framing.specs.declared.refusals.Refusal.{Refusal}
 use Rattle.profiles.specs.Profiles.{Profile, widthsFor, endAt, widthsAt, widthsOf, rulesRefusal}
 use Rattle.profiles.specs.Places.{entryOf}
 

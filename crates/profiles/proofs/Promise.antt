@@ -1,5 +1,5 @@
 -- EVERY PROFILE KEEPS THE PROMISE that is regular, and whose header can say what is written, and no more.
-use mathlib.Core.Path.{_≡_, ap, _∙_}
+use mathlib.Core.Path.{ap, _∙_}
 use Prim.Native.Nat.{ℕ, _*_}
 use lib.ListN.{length, drop}
 use lib.Seq.{drop-at}

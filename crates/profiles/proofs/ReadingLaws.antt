@@ -17,7 +17,7 @@ use Rattle.framing.specs.declared.refusals.Refusal.{Refusal}
 use Rattle.framing.specs.Framing.{lengthOf}
 use Rattle.framing.proofs.RefusalLaws.{Clear, clear-refuse, clear-orElse, same-number, orElse-first, orElse-then, next, ends, refuse-none, unless-none, unless-some}
 use Rattle.framing.proofs.FramingLaws.{Headed, headed}
-use Rattle.profiles.specs.Profiles.{Profile, countOf, startOf, bytesFor, paddingFor, widthsAt, rulesRefusal}
+use Rattle.profiles.specs.Profiles.{Profile, countOf, firstAt, bytesFor, paddingFor, widthsAt, rulesRefusal}
 use Rattle.profiles.specs.Reading.{entriesOf, bitsOf, shapeRefusal, endRefusal, readRefusal, readWith, refusedFor, readAnswer, readInto}
 use Rattle.profiles.proofs.ProfileLaws.{Regular, length-at}
 
@@ -64,7 +64,7 @@ end-clear s bits bytes room = clear-orElse _ _ (clear-refuse _ _ _)
 pub record Accepted (f : Profile) (s : List ℕ) (room : ℕ) : Type 0 where
   pub head : Headed s (f .kind) (f .kind)
   pub length-right : lengthOf s ≡ bytesFor (bitsOf f s)
-  pub rules : rulesRefusal f (startOf f) (entriesOf f s) (countOf f s) .number ≡ 0
+  pub rules : rulesRefusal f (firstAt f) (entriesOf f s) (countOf f s) .number ≡ 0
   pub padding : field s (bitsOf f s) (paddingFor (bitsOf f s)) ≡ 0
   pub fits : f .pieces * countOf f s ≤ room
 
@@ -85,7 +85,7 @@ accepted f s room e =
 
 pub length-entries : (f : Profile) → Regular f → (s : List ℕ) → length (entriesOf f s) ≡ f .pieces * countOf f s
 unfolding entriesOf
-length-entries f reg s = length-unpack s (startOf f) (widthsAt f s (startOf f) (countOf f s)) ∙ length-at f reg s (startOf f) (countOf f s)
+length-entries f reg s = length-unpack s (firstAt f) (widthsAt f s (firstAt f) (countOf f s)) ∙ length-at f reg s (firstAt f) (countOf f s)
 
 -- the ways that a read ends
 module _ (f : Profile) (s o : List ℕ) where
@@ -114,7 +114,7 @@ module _ (f : Profile) (s o : List ℕ) where
     shape-refused ne = read-refused shape (ends _ _ es ne) ne
 
     module _ (zs : shape .number ≡ 0) (a : Refusal) (after : List ℕ)
-        (ea : a ≡ orElse (rulesRefusal f (startOf f) (entriesOf f s) (countOf f s)) (endRefusal s (bitsOf f s) (f .pieces * countOf f s) (length o)))
+        (ea : a ≡ orElse (rulesRefusal f (firstAt f) (entriesOf f s) (countOf f s)) (endRefusal s (bitsOf f s) (f .pieces * countOf f s) (length o)))
         (eo : after ≡ unlessRefused (a .number) (sets o 0 (entriesOf f s)) o) where
       answer-eq : a ≡ readRefusal f s (length o)
       unfolding readRefusal

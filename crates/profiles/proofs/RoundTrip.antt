@@ -16,9 +16,9 @@ use Rattle.numbers.proofs.PieceLaws.{Fit, none, one, unpack-append, unpack-pack
 use Rattle.framing.specs.Refusals.{refuse, orElse, unlessRefused}
 use Rattle.framing.specs.Framing.{typeOf, lengthOf, headRefusal}
 use Rattle.framing.proofs.RefusalLaws.{same-number, orElse-first, orElse-then, orElse-go, next, same, not-below, last-not-below, refuse-none, unless-none}
-use Rattle.profiles.specs.Profiles.{Profile, countOf, startOf, bytesFor, paddingFor, widthsFor, widthsAt, widthsOf, rulesRefusal}
+use Rattle.profiles.specs.Profiles.{Profile, countOf, firstAt, bytesFor, paddingFor, widthsFor, widthsAt, widthsOf, rulesRefusal}
 use Rattle.profiles.specs.Reading.{entriesOf, bitsOf, shapeRefusal, endRefusal, readRefusal, readWith, readAnswer, readInto}
-use Rattle.profiles.specs.Writing.{entriesIn, bitsFor, sizeFor, packetWidths, packetValues, written, widthsRefusal, entryRefusal, listRefusal, writeRefusal, writtenWith, writeAnswer, writeInto}
+use Rattle.profiles.specs.Writing.{entriesIn, bitsFor, sizeFor, packetWidths, packetValues, written, widthsRefusal, entryRefusal, listRefusal, countRefusal, writeRefusal, writtenWith, writeAnswer, writeInto}
 use Rattle.profiles.specs.declared.EntriesRead.{EntriesRead}
 use Rattle.profiles.specs.declared.EntriesWritten.{EntriesWritten}
 use Rattle.profiles.proofs.ProfileLaws.{Regular, some, length-of, drop-entry, widths-read, widths-same}
@@ -28,14 +28,14 @@ use Rattle.profiles.proofs.WritingLaws.{Listed, listed, total-packet}
 -- ---- writing what was read
 
 -- the entries that widths read, and behind them padding that is zero
-body-read : (f : Profile) (s ws : List ℕ) → ws ≡ widthsAt f s (startOf f) (countOf f s) → field s (bitsOf f s) (paddingFor (bitsOf f s)) ≡ 0
-    → unpack s (startOf f) (ws ++ (paddingFor (startOf f + total ws) ∷ [])) ≡ entriesOf f s ++ (0 ∷ [])
+body-read : (f : Profile) (s ws : List ℕ) → ws ≡ widthsAt f s (firstAt f) (countOf f s) → field s (bitsOf f s) (paddingFor (bitsOf f s)) ≡ 0
+    → unpack s (firstAt f) (ws ++ (paddingFor (firstAt f + total ws) ∷ [])) ≡ entriesOf f s ++ (0 ∷ [])
 unfolding unpack entriesOf bitsOf
 body-read f s ws e padding =
-    let all : List ℕ = widthsAt f s (startOf f) (countOf f s) in
-    ap (λ (l : List ℕ). unpack s (startOf f) (l ++ (paddingFor (startOf f + total l) ∷ []))) e
-    ∙ unpack-append s (startOf f) all (paddingFor (startOf f + total all) ∷ [])
-    ∙ ap (λ (v : ℕ). unpack s (startOf f) all ++ (v ∷ [])) padding
+    let all : List ℕ = widthsAt f s (firstAt f) (countOf f s) in
+    ap (λ (l : List ℕ). unpack s (firstAt f) (l ++ (paddingFor (firstAt f + total l) ∷ []))) e
+    ∙ unpack-append s (firstAt f) all (paddingFor (firstAt f + total all) ∷ [])
+    ∙ ap (λ (v : ℕ). unpack s (firstAt f) all ++ (v ∷ [])) padding
 
 module _ (f : Profile) (reg : Regular f) where
   count-entries : (s : List ℕ) → entriesIn f (entriesOf f s) ≡ countOf f s
@@ -49,13 +49,13 @@ module _ (f : Profile) (reg : Regular f) where
     n = countOf f s
 
     -- the entries have outside the widths that they have inside
-    outside : widthsOf f list n ≡ widthsAt f s (startOf f) n
+    outside : widthsOf f list n ≡ widthsAt f s (firstAt f) n
     unfolding entriesOf
-    outside = widths-read f reg s (startOf f) n
+    outside = widths-read f reg s (firstAt f) n
 
     bits-read : bitsFor f list n ≡ bitsOf f s
     unfolding bitsOf
-    bits-read = ap (λ (ws : List ℕ). startOf f + total ws) outside
+    bits-read = ap (λ (ws : List ℕ). firstAt f + total ws) outside
 
     -- so the list alone tells the length
     size-read : (room : ℕ) → Accepted f s room → lengthOf s ≡ sizeFor f list n
@@ -133,14 +133,14 @@ module _ (f : Profile) (reg : Regular f) where
       ∙ read-listed s (p + total ws) n (same-number (ap (λ (l : List ℕ). rulesRefusal f (p + total ws) l n) (sym rest)) ∙ e₂) in
       same-number (orElse-go _ _ (same-number (orElse-go _ _ (widths-fitting s p ws more)) ∙ e₁)) ∙ left
 
-  entries-listed : (s : List ℕ) → rulesRefusal f (startOf f) (entriesOf f s) (countOf f s) .number ≡ 0 → listRefusal f (entriesOf f s) (countOf f s) .number ≡ 0
+  entries-listed : (s : List ℕ) → rulesRefusal f (firstAt f) (entriesOf f s) (countOf f s) .number ≡ 0 → listRefusal f (entriesOf f s) (countOf f s) .number ≡ 0
   unfolding entriesOf
-  entries-listed s = read-listed s (startOf f) (countOf f s)
+  entries-listed s = read-listed s (firstAt f) (countOf f s)
 
   -- the writer takes what was read, given room
   pub write-accepts : (most : ℕ) → Full f most → (s : List ℕ) (room more : ℕ) → readRefusal f s room .number ≡ 0 → lengthOf s ≤ more
       → writeRefusal f most (entriesOf f s) more .number ≡ 0
-  unfolding writeRefusal
+  unfolding writeRefusal countRefusal
   write-accepts most full s room more e fits =
       let g = accepted f s room e in
       let list : List ℕ = entriesOf f s in
@@ -149,11 +149,10 @@ module _ (f : Profile) (reg : Regular f) where
       let right : listRefusal f list (entriesIn f list) .number ≡ 0 = same-number (ap (listRefusal f list) en) ∙ entries-listed s (g .rules) in
       let size : lengthOf s ≡ sizeFor f list (entriesIn f list) = size-of f reg s room g in
       let few : countOf f s ≤ most = full s (omega (arith, g .length-right, field-lt s 4 7)) in
+      let count = not-below 0 (length list % f .pieces) _ _ (omega arith) (last-not-below most (entriesIn f list) _ (omega arith)) in
       same-number
       (sym
-      (not-below 0 (length list % f .pieces) _ _ (omega arith)
-      (not-below most (entriesIn f list) _ _ (omega arith)
-      (next _ _ right (last-not-below more (sizeFor f list (entriesIn f list)) _ (omega arith))))))
+      (next _ _ (same-number (sym count)) (next _ _ right (last-not-below more (sizeFor f list (entriesIn f list)) _ (omega arith)))))
 
 -- ---- reading what was written
 
@@ -226,7 +225,7 @@ module _ (f : Profile) (reg : Regular f) where
   unfolding packetWidths packetValues unpack entriesOf bitsOf
   wrote-parts list s whole e =
       let n : ℕ = entriesIn f list in
-      let start : ℕ = startOf f in
+      let start : ℕ = firstAt f in
       let ws : List ℕ = widthsOf f list n in
       let w : ℕ = paddingFor (bitsFor f list n) in
       let en : countOf f s ≡ n = cc in
@@ -275,8 +274,8 @@ module _ (f : Profile) (reg : Regular f) (most : ℕ) (ok : Sayable f most) wher
       let w = wrote f reg most ok list o e in
       let n : ℕ = entriesIn f list in
       let long : length s ≡ length o = length-written f list o in
-      let rules : rulesRefusal f (startOf f) (entriesOf f s) (countOf f s) .number ≡ 0 =
-      same-number (ap₂ (rulesRefusal f (startOf f)) (w .entries) (w .counted)) ∙ rules-listed f reg list (startOf f) n (g .right) in
+      let rules : rulesRefusal f (firstAt f) (entriesOf f s) (countOf f s) .number ≡ 0 =
+      same-number (ap₂ (rulesRefusal f (firstAt f)) (w .entries) (w .counted)) ∙ rules-listed f reg list (firstAt f) n (g .right) in
       let right : lengthOf s ≡ bytesFor (bitsOf f s) = w .sized ∙ ap bytesFor (sym (w .bits)) in
       let bytes : f .pieces * countOf f s ≡ length list = ap (λ (k : ℕ). f .pieces * k) (w .counted) ∙ sym (g .whole) in
       let shape = next _ _ (head-accepted s (f .kind) (omega (arith, g .fits)) (w .typed) (omega (arith, w .sized)) (omega (arith, w .sized, g .fits))) (sym (same _ _ _ right)) in

@@ -25,8 +25,8 @@ abbrev pub countOf : Profile → List ℕ → ℕ
 countOf f s = field s countAt (f .countWidth)
 
 -- the bit at which the first entry starts
-abbrev pub startOf : Profile → ℕ
-startOf f = countAt + f .countWidth
+abbrev pub firstAt : Profile → ℕ
+firstAt f = countAt + f .countWidth
 
 -- the bytes that so many bits take, and the bits that fill up the last of them
 abbrev pub bytesFor : ℕ → ℕ

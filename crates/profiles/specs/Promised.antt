@@ -6,7 +6,7 @@ use Prim.Native.Nat.{ℕ, suc, _*_, _≤_, _<_}
 use lib.ListN.{length, getD, take, drop}
 use Rattle.framing.specs.Refusals.{lengthNotForCount}
 use Rattle.framing.specs.Framing.{lengthOf, headRefusal}
-use Rattle.profiles.specs.Profiles.{Profile, countOf, startOf}
+use Rattle.profiles.specs.Profiles.{Profile, countOf, firstAt}
 use Rattle.profiles.specs.Reading.{entriesOf, readRefusal, readWith, readAnswer, readInto}
 use Rattle.profiles.specs.Places.{entryAt}
 use Rattle.profiles.specs.Writing.{entriesIn, sizeFor, writeRefusal, writtenWith, writeAnswer, writeInto}
@@ -43,7 +43,7 @@ pub record Promised (f : Profile) (most : ℕ) : Type 0 where
       → (readAnswer f (s ++ more) o ≡ readAnswer f s o) × (readInto f (s ++ more) o ≡ readInto f s o)
   -- AN ENTRY THAT RUNS PAST the sub-packet gives 3, at the count, whatever is wrong besides in entries, padding or room
   pub runs-past : (s : List ℕ) (room i : ℕ) → headRefusal s (f .kind) (f .kind) .number ≡ 0 → i < countOf f s
-      → 8 * lengthOf s < entryAt f s (startOf f) (suc i) → readRefusal f s room ≡ lengthNotForCount
+      → 8 * lengthOf s < entryAt f s (firstAt f) (suc i) → readRefusal f s room ≡ lengthNotForCount
   -- WHAT LIES BEHIND in an output stays: behind the entries that were read, and behind the sub-packet that was written
   pub behind-read : (s o : List ℕ) → Reads f s o → drop (f .pieces * countOf f s) (readInto f s o) ≡ drop (f .pieces * countOf f s) o
   pub behind-written : (list o : List ℕ) → AreBytes o → Writes f most list o

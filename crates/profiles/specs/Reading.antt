@@ -7,12 +7,12 @@ use Rattle.fields.specs.FirstSet.{firstSet}
 use Rattle.framing.specs.Refusals.{nowhere, lengthNotForCount, paddingSet, noRoom, refuse, orElse, unlessRefused}
 use Rattle.framing.specs.Framing.{lengthOf, headRefusal}
 use Rattle.framing.specs.declared.refusals.Refusal.{Refusal}
-use Rattle.profiles.specs.Profiles.{Profile, countOf, startOf, bytesFor, paddingFor, widthsAt, rulesRefusal}
+use Rattle.profiles.specs.Profiles.{Profile, countOf, firstAt, bytesFor, paddingFor, widthsAt, rulesRefusal}
 use Rattle.profiles.specs.declared.EntriesRead.{EntriesRead}
 
 -- the first n entries outside: a byte for each piece
 abbrev pub firstEntries : Profile → List ℕ → ℕ → List ℕ
-firstEntries f s n = unpack s (startOf f) (widthsAt f s (startOf f) n)
+firstEntries f s n = unpack s (firstAt f) (widthsAt f s (firstAt f) n)
 
 -- those that the count says
 unfoldable pub entriesOf : Profile → List ℕ → List ℕ
@@ -20,9 +20,10 @@ entriesOf f s = firstEntries f s (countOf f s)
 
 -- the bits of the sub-packet before its padding
 unfoldable pub bitsOf : Profile → List ℕ → ℕ
-bitsOf f s = startOf f + total (widthsAt f s (startOf f) (countOf f s))
+bitsOf f s = firstAt f + total (widthsAt f s (firstAt f) (countOf f s))
 
--- the length must be that of so many bits. An entry that runs past the sub-packet takes more of them than there are
+-- the length must be that of so many bits. Where an entry runs past the sub-packet, what follows stands for its bits, or 0, and the length is too
+-- small whatever they are
 abbrev pub lengthRefusal : List ℕ → ℕ → Refusal
 lengthRefusal s bits = refuse (not (eqb (lengthOf s) (bytesFor bits))) lengthNotForCount
 
@@ -46,7 +47,7 @@ endRefusal s bits bytes room = orElse (paddingRefusal s bits) (roomRefusal bytes
 unfoldable pub readRefusal : Profile → List ℕ → ℕ → Refusal
 readRefusal f s room =
     orElse (shapeRefusal (f .kind) s (bitsOf f s))
-    (orElse (rulesRefusal f (startOf f) (entriesOf f s) (countOf f s)) (endRefusal s (bitsOf f s) (f .pieces * countOf f s) room))
+    (orElse (rulesRefusal f (firstAt f) (entriesOf f s) (countOf f s)) (endRefusal s (bitsOf f s) (f .pieces * countOf f s) room))
 
 -- the answer where nothing refuses: the entries, and the bytes of the sub-packet
 abbrev pub readWith : ℕ → ℕ → EntriesRead

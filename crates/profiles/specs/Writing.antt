@@ -5,7 +5,7 @@ use lib.{ListN.length, ListN.getD, ListN.drop, Dec.ltb, Dec.leb}
 use Rattle.numbers.specs.Pieces.{total, pack}
 use Rattle.framing.specs.Refusals.{none, notWholeEntries, tooManyEntries, tooWide, noRoom, refuse, orElse, unlessRefused, untold}
 use Rattle.framing.specs.declared.refusals.Refusal.{Refusal}
-use Rattle.profiles.specs.Profiles.{Profile, startOf, bytesFor, paddingFor, widthsFor, widthsOf}
+use Rattle.profiles.specs.Profiles.{Profile, firstAt, bytesFor, paddingFor, widthsFor, widthsOf}
 use Rattle.profiles.specs.declared.EntriesWritten.{EntriesWritten}
 
 -- the entries of a list
@@ -14,7 +14,7 @@ entriesIn f list = length list / f .pieces
 
 -- the bits of a sub-packet of the first n entries of a list, before its padding; and its bytes
 abbrev pub bitsFor : Profile → List ℕ → ℕ → ℕ
-bitsFor f list n = startOf f + total (widthsOf f list n)
+bitsFor f list n = firstAt f + total (widthsOf f list n)
 
 abbrev pub sizeFor : Profile → List ℕ → ℕ → ℕ
 sizeFor f list n = bytesFor (bitsFor f list n)
@@ -45,12 +45,15 @@ unfoldable pub listRefusal : Profile → List ℕ → ℕ → Refusal
 listRefusal f list zero = none
 listRefusal f list (suc n) = orElse (entryRefusal f list) (listRefusal f (drop (f .pieces) list) n)
 
+-- a list must be whole entries, with no bytes left behind them, and no more than are written
+unfoldable pub countRefusal : ℕ → ℕ → ℕ → Refusal
+countRefusal left entries most = orElse (refuse (ltb 0 left) notWholeEntries) (refuse (ltb most entries) tooManyEntries)
+
 -- the rules of a write in their order, at most `most` entries into room bytes
 unfoldable pub writeRefusal : Profile → ℕ → List ℕ → ℕ → Refusal
 writeRefusal f most list room =
-    orElse (refuse (ltb 0 (length list % f .pieces)) notWholeEntries)
-    (orElse (refuse (ltb most (entriesIn f list)) tooManyEntries)
-    (orElse (listRefusal f list (entriesIn f list)) (refuse (ltb room (sizeFor f list (entriesIn f list))) noRoom)))
+    orElse (countRefusal (length list % f .pieces) (entriesIn f list) most)
+    (orElse (listRefusal f list (entriesIn f list)) (refuse (ltb room (sizeFor f list (entriesIn f list))) noRoom))
 
 -- the answer where nothing refuses: the entries, and the bytes written
 abbrev pub writtenWith : ℕ → ℕ → EntriesWritten

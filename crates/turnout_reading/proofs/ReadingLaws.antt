@@ -1,28 +1,28 @@
 -- Laws of turnout reading.
-use mathlib.Core.Path.{_≡_, refl, sym, ap, ap₂, subst, _∙_}
+use mathlib.Core.Path.{_≡_, refl, sym, ap, ap₂, _∙_}
 use mathlib.Core.List.{List, [], _∷_}
 use mathlib.Core.Bool.{Bool, true, false, not}
 use Prim.Native.Nat.{ℕ, suc, _+_, _-_, _*_, _/_, _%_, _^_, _<_}
 use native.Mathlib.Nat.{add-zero, lt-of-lt-of-le}
 use native.Mathlib.Numerals.{add-one}
 use native.Mathlib.Omega.{arith}
-use lib.ListN.{length, set, drop}
+use lib.ListN.{getD, set, drop}
 use lib.Pow.{pow-mono}
 use lib.Seq.{sets}
 use Rattle.numbers.specs.Fields.{field}
 use Rattle.numbers.specs.Pieces.{total, unpack}
-use Rattle.numbers.proofs.FieldLaws.{field-lt}
+use Rattle.numbers.proofs.FieldLaws.{field-lt, field-add}
 use Rattle.numbers.proofs.PieceLaws.{sets-append}
 use Rattle.numbers.proofs.WithinLaws.{cut, unpack-cut}
-use Rattle.framing.specs.Refusals.{none, notAllowed, refuse, orElse, movedBy}
+use Rattle.framing.specs.Refusals.{notAllowed, refuse, orElse, movedBy}
 use Rattle.framing.specs.declared.refusals.Refusal.{Refusal}
-use Rattle.framing.proofs.RefusalLaws.{same-number, orElse-go, ends}
+use Rattle.framing.proofs.RefusalLaws.{orElse-go, ends}
 use Rattle.profiles.specs.Profiles.{endAt, widthsAt, rulesRefusal}
 use Rattle.profiles.specs.Places.{entryAt, entryOf}
 use Rattle.profiles.proofs.ProfileLaws.{total-suc, unpack-suc, rules-suc, entry-long}
 use Rattle.profiles.proofs.ReadingLaws.{each, each-run}
-use Rattle.turnouts.specs.Turnouts.{turnoutProfile, turnoutBytes, behindSpeed, isAllowed}
-use Rattle.turnouts.proofs.TurnoutLaws.{each-kind, few-behind, regular}
+use Rattle.turnouts.specs.Turnouts.{turnoutProfile, turnoutBytes, isRestricted, distances, absent, behindSpeed, isAllowed}
+use Rattle.turnouts.proofs.TurnoutLaws.{each-kind, behind-restricted, behind-other, few-behind, regular}
 use Rattle.turnout_reading.specs.Steps.{digits}
 
 -- ---- one turnout
@@ -31,16 +31,16 @@ use Rattle.turnout_reading.specs.Steps.{digits}
 abbrev Behind : List ℕ → ℕ → List ℕ → Type 0
 Behind s p ws = unpack s p ws ≡ drop 1 (digits 0 (field s p (total ws)))
 
-both : (s : List ℕ) (p : ℕ) → Behind s p (7 ∷ 8 ∷ 4 ∷ 8 ∷ [])
+both : (s : List ℕ) (p : ℕ) → Behind s p distances
 unfolding cut total
 both s p =
     let x : ℕ = field s p 27 in
     let a : x / 1048576 % 128 ≡ x / 4096 / 256 = omega (arith, field-lt s p 27) in
     let c : x / 256 % 16 ≡ x % 4096 / 256 = omega arith in
     let d : x / 1 % 256 ≡ x % 4096 % 256 = omega arith in
-    unpack-cut s p (7 ∷ 8 ∷ 4 ∷ 8 ∷ []) ∙ (λ i. a i ∷ x / 4096 % 256 ∷ c i ∷ d i ∷ [])
+    unpack-cut s p distances ∙ (λ i. a i ∷ x / 4096 % 256 ∷ c i ∷ d i ∷ [])
 
-neither : (s : List ℕ) (p : ℕ) → Behind s p (0 ∷ 0 ∷ 0 ∷ 0 ∷ [])
+neither : (s : List ℕ) (p : ℕ) → Behind s p absent
 unfolding unpack total field
 neither s p = refl
 
@@ -51,6 +51,31 @@ turnout-digits s p speed x es ex =
     ap (digits speed) ex
     ∙ ap (λ (l : List ℕ). speed ∷ l) (sym (each-kind (Behind s (p + 5)) (both s (p + 5)) (neither s (p + 5)) speed))
     ∙ ap (λ (v : ℕ). v ∷ unpack s (p + 5) (behindSpeed v)) es
+
+-- OF A TURNOUT THAT WAS READ the bytes are the paper's fields: 15 bits of distance behind the 5 of the speed, and 12 of release distance behind these
+module _ (s : List ℕ) (p : ℕ) where
+  abbrev pair : ℕ → ℕ → ℕ
+  pair high low = getD (entryOf turnoutProfile s p) high 0 * 256 + getD (entryOf turnoutProfile s p) low 0
+
+  module _ (restricted : isRestricted (field s p 5) ≡ true) where
+    pub distance-read : pair 1 2 ≡ field s (p + 5) 15
+    unfolding unpack
+    distance-read =
+        ap (λ (ws : List ℕ). getD (unpack s (p + 5) ws) 0 0 * 256 + getD (unpack s (p + 5) ws) 1 0) (behind-restricted (field s p 5) restricted)
+        ∙ sym (field-add s (p + 5) 7 8)
+
+    pub release-read : pair 3 4 ≡ field s (p + 20) 12
+    unfolding unpack
+    release-read =
+        let e : p + 5 + 7 + 8 ≡ p + 20 = omega arith in
+        ap (λ (ws : List ℕ). getD (unpack s (p + 5) ws) 2 0 * 256 + getD (unpack s (p + 5) ws) 3 0) (behind-restricted (field s p 5) restricted)
+        ∙ sym (field-add s (p + 5 + 7 + 8) 4 8)
+        ∙ ap (λ (q : ℕ). field s q 12) e
+
+  -- and where the speed has none, zeros
+  pub absent-read : isRestricted (field s p 5) ≡ false → entryOf turnoutProfile s p ≡ field s p 5 ∷ 0 ∷ 0 ∷ 0 ∷ 0 ∷ []
+  unfolding unpack field
+  absent-read other = ap (λ (ws : List ℕ). field s p 5 ∷ unpack s (p + 5) ws) (behind-other (field s p 5) other)
 
 pub distances-small : (s : List ℕ) (p speed : ℕ) → field s p (total (behindSpeed speed)) < 2 ^ 27
 distances-small s p speed = lt-of-lt-of-le (field-lt s p (total (behindSpeed speed))) (pow-mono {i = total (behindSpeed speed)} {j = 27} (few-behind speed))

@@ -2,7 +2,7 @@
 use mathlib.Core.Path.{_≡_, refl, sym, ap, ap₂, _∙_}
 use mathlib.Core.List.{List, [], _∷_}
 use mathlib.Core.Bool.{Bool, true, false, not}
-use mathlib.Core.Logic.{⊎-elim, _⊎_, inl, inr}
+use mathlib.Core.Logic.{⊎-elim, _⊎_}
 use Prim.Native.Nat.{ℕ, suc, _+_, _-_, _*_, _%_, _^_, _≤_, _<_}
 use native.Mathlib.Nat.{add-assoc, mod-eq-of-lt}
 use native.Mathlib.Omega.{arith}
@@ -21,7 +21,7 @@ use Rattle.framing.proofs.RefusalLaws.{next}
 use Rattle.profiles.specs.Profiles.{widthsFor, widthsOf}
 use Rattle.profiles.specs.Writing.{widthsRefusal, entryRefusal}
 use Rattle.profiles.proofs.WritingLaws.{only-last, only-widths, widths-none, widths-wide, widths-fit, first-byte}
-use Rattle.turnouts.specs.Turnouts.{turnoutProfile, turnoutBytes, behindSpeed, lastDistance, lastRelease, isAllowed}
+use Rattle.turnouts.specs.Turnouts.{turnoutProfile, turnoutBytes, distances, absent, behindSpeed, lastDistance, lastRelease, isAllowed}
 use Rattle.turnouts.proofs.TurnoutLaws.{each-limit, each-kind, allowed-small}
 
 -- ---- the bytes of a turnout in a list
@@ -105,8 +105,12 @@ module _ (l : List ℕ) (hs : Bytes l) where
 
 -- ---- a turnout put
 
+-- distance and release distance of a turnout's bytes as one number, each cut to its width
+abbrev pub distancesOf : List ℕ → ℕ
+distancesOf l = (getD l 1 0 * 256 + getD l 2 0) % 32768 * 4096 + (getD l 3 0 * 256 + getD l 4 0) % 4096
+
 -- pieces without bits change nothing
-no-bits : (o : List ℕ) (p : ℕ) (vs : List ℕ) → pack o p (0 ∷ 0 ∷ 0 ∷ 0 ∷ []) vs ≡ o
+no-bits : (o : List ℕ) (p : ℕ) (vs : List ℕ) → pack o p absent vs ≡ o
 unfolding pack put
 no-bits o p [] = refl
 no-bits o p (a ∷ []) = refl
@@ -115,7 +119,7 @@ no-bits o p (a ∷ b ∷ c ∷ []) = refl
 no-bits o p (a ∷ b ∷ c ∷ d ∷ vs) = refl
 
 neither : (o : List ℕ) (p : ℕ) (l : List ℕ)
-    → put o p (total (0 ∷ 0 ∷ 0 ∷ 0 ∷ [])) ((getD l 1 0 * 256 + getD l 2 0) % 32768 * 4096 + (getD l 3 0 * 256 + getD l 4 0) % 4096) ≡ pack o p (0 ∷ 0 ∷ 0 ∷ 0 ∷ []) (drop 1 l)
+    → put o p (total absent) (distancesOf l) ≡ pack o p absent (drop 1 l)
 unfolding total
 neither o p l = put-zero o p _ ∙ sym (no-bits o p (drop 1 l))
 
@@ -124,25 +128,25 @@ low-digits : (a b k : ℕ) → b < 256 → (a * 256 + b) % 2 ^ (k + 8) ≡ a % 2
 low-digits a b k h = mod-pow-add (a * 256 + b) k 8 ∙ ap₂ (λ (x y : ℕ). x % 2 ^ k * 256 + y) (high a 8 h) (low a 8 h)
 
 both : (o : List ℕ) (p : ℕ) (l : List ℕ) → Bytes o → Bytes l → turnoutBytes ≤ length l
-    → put o p (total (7 ∷ 8 ∷ 4 ∷ 8 ∷ [])) ((getD l 1 0 * 256 + getD l 2 0) % 32768 * 4096 + (getD l 3 0 * 256 + getD l 4 0) % 4096) ≡ pack o p (7 ∷ 8 ∷ 4 ∷ 8 ∷ []) (drop 1 l)
+    → put o p (total distances) (distancesOf l) ≡ pack o p distances (drop 1 l)
 unfolding joined total
 both o p l ho hs long =
     let far : (getD l 1 0 * 256 + getD l 2 0) % 32768 ≡ getD l 1 0 % 128 * 256 + getD l 2 0 = low-digits (getD l 1 0) (getD l 2 0) 7 (hs 2) in
     let near : (getD l 3 0 * 256 + getD l 4 0) % 4096 ≡ getD l 3 0 % 16 * 256 + getD l 4 0 = low-digits (getD l 3 0) (getD l 4 0) 4 (hs 4) in
-    let value : joined (7 ∷ 8 ∷ 4 ∷ 8 ∷ []) (drop 1 l) ≡ (getD l 1 0 * 256 + getD l 2 0) % 32768 * 4096 + (getD l 3 0 * 256 + getD l 4 0) % 4096 =
+    let value : joined distances (drop 1 l) ≡ distancesOf l =
     omega (arith, far, near, mod-eq-of-lt (hs 2), mod-eq-of-lt (hs 4), joined-step 7 (8 ∷ 4 ∷ 8 ∷ []) l 1 (omega arith), joined-step 8 (4 ∷ 8 ∷ []) l 2 (omega arith), joined-step 4 (8 ∷ []) l 3 (omega arith), joined-step 8 [] l 4 (omega arith)) in
-    ap (put o p 27) (sym value) ∙ sym (pack-joined o p (7 ∷ 8 ∷ 4 ∷ 8 ∷ []) (drop 1 l) ho (rw length-drop (omega arith)))
+    ap (put o p 27) (sym value) ∙ sym (pack-joined o p distances (drop 1 l) ho (rw length-drop (omega arith)))
 
 -- what stands behind the speed, put as one number of which no bit is put where the speed has none
 pub behind-put : (o : List ℕ) (p v : ℕ) (l : List ℕ) → Bytes o → Bytes l → turnoutBytes ≤ length l
-    → put o p (total (behindSpeed v)) ((getD l 1 0 * 256 + getD l 2 0) % 32768 * 4096 + (getD l 3 0 * 256 + getD l 4 0) % 4096) ≡ pack o p (behindSpeed v) (drop 1 l)
+    → put o p (total (behindSpeed v)) (distancesOf l) ≡ pack o p (behindSpeed v) (drop 1 l)
 behind-put o p v l ho hs long =
-    each-kind (λ (ws : List ℕ). put o p (total ws) ((getD l 1 0 * 256 + getD l 2 0) % 32768 * 4096 + (getD l 3 0 * 256 + getD l 4 0) % 4096) ≡ pack o p ws (drop 1 l))
+    each-kind (λ (ws : List ℕ). put o p (total ws) (distancesOf l) ≡ pack o p ws (drop 1 l))
     (both o p l ho hs long) (neither o p l) v
 
 -- so a turnout's pieces are put
 pub turnout-put : (o : List ℕ) (p v : ℕ) (l : List ℕ) → v ≡ getD l 0 0 → Bytes o → Bytes l → turnoutBytes ≤ length l
-    → put (put o p 5 v) (p + 5) (total (behindSpeed v)) ((getD l 1 0 * 256 + getD l 2 0) % 32768 * 4096 + (getD l 3 0 * 256 + getD l 4 0) % 4096)
+    → put (put o p 5 v) (p + 5) (total (behindSpeed v)) (distancesOf l)
     ≡ pack o p (widthsFor turnoutProfile (getD l 0 0)) l
 unfolding pack
 turnout-put o p v l ev ho hs long =

@@ -1,6 +1,6 @@
 -- Laws of a turnout's layout.
 use mathlib.Core.Path.{_≡_, refl, sym, ap, _∙_}
-use mathlib.Core.List.{List, [], _∷_, _++_}
+use mathlib.Core.List.{List}
 use mathlib.Core.Bool.{Bool, true, false, true≢false, cond, not, _&&_, _||_}
 use mathlib.Core.Logic.{⊎-elim, _⊎_, inl, inr}
 use Prim.Native.Nat.{ℕ, zero, suc, _+_, _*_, _≤_, _<_}
@@ -19,29 +19,29 @@ use Rattle.profiles.specs.Promised.{Promised}
 use Rattle.profiles.proofs.ProfileLaws.{Regular}
 use Rattle.profiles.proofs.RoundTrip.{Sayable, Full}
 use Rattle.profiles.proofs.Promise.{promised as every}
-use Rattle.turnouts.specs.Turnouts.{turnoutProfile, turnoutBytes, mostTurnouts, speedBits, lastRestricted, unrestricted, isRestricted, behindSpeed, lastDistance, lastRelease, isAllowed, turnoutRefusal}
+use Rattle.turnouts.specs.Turnouts.{turnoutProfile, turnoutBytes, mostTurnouts, speedBits, lastRestricted, unrestricted, isRestricted, distances, absent, behindSpeed, lastDistance, lastRelease, isAllowed, turnoutRefusal}
 
 -- what holds of the pieces of either kind of speed, and of what they have room for, holds of those behind any
-pub each-limit : (P : List ℕ → ℕ → ℕ → Type 0) → P (7 ∷ 8 ∷ 4 ∷ 8 ∷ []) 32767 4095 → P (0 ∷ 0 ∷ 0 ∷ 0 ∷ []) 0 0
+pub each-limit : (P : List ℕ → ℕ → ℕ → Type 0) → P distances 32767 4095 → P absent 0 0
     → (speed : ℕ) → P (behindSpeed speed) (lastDistance speed) (lastRelease speed)
 unfolding behindSpeed lastDistance lastRelease
 each-limit P with-distances without speed = of (isRestricted speed)
   where
-    of : (b : Bool) → P (cond b (7 ∷ 8 ∷ 4 ∷ 8 ∷ []) (0 ∷ 0 ∷ 0 ∷ 0 ∷ [])) (cond b 32767 0) (cond b 4095 0)
+    of : (b : Bool) → P (cond b distances absent) (cond b 32767 0) (cond b 4095 0)
     of true = with-distances
     of false = without
 
-pub each-kind : (P : List ℕ → Type 0) → P (7 ∷ 8 ∷ 4 ∷ 8 ∷ []) → P (0 ∷ 0 ∷ 0 ∷ 0 ∷ []) → (speed : ℕ) → P (behindSpeed speed)
+pub each-kind : (P : List ℕ → Type 0) → P distances → P absent → (speed : ℕ) → P (behindSpeed speed)
 each-kind P = each-limit (λ ws distance release. P ws)
 
 -- the pieces of a speed that limits, and of one that does not
-pub behind-restricted : (speed : ℕ) → isRestricted speed ≡ true → behindSpeed speed ≡ 7 ∷ 8 ∷ 4 ∷ 8 ∷ []
+pub behind-restricted : (speed : ℕ) → isRestricted speed ≡ true → behindSpeed speed ≡ distances
 unfolding behindSpeed
-behind-restricted speed e = ap (λ (b : Bool). cond b (7 ∷ 8 ∷ 4 ∷ 8 ∷ []) (0 ∷ 0 ∷ 0 ∷ 0 ∷ [])) e
+behind-restricted speed e = ap (λ (b : Bool). cond b distances absent) e
 
-pub behind-other : (speed : ℕ) → isRestricted speed ≡ false → behindSpeed speed ≡ 0 ∷ 0 ∷ 0 ∷ 0 ∷ []
+pub behind-other : (speed : ℕ) → isRestricted speed ≡ false → behindSpeed speed ≡ absent
 unfolding behindSpeed
-behind-other speed e = ap (λ (b : Bool). cond b (7 ∷ 8 ∷ 4 ∷ 8 ∷ []) (0 ∷ 0 ∷ 0 ∷ 0 ∷ [])) e
+behind-other speed e = ap (λ (b : Bool). cond b distances absent) e
 
 pub few-behind : (speed : ℕ) → total (behindSpeed speed) ≤ 27
 unfolding total

@@ -29,10 +29,17 @@ unrestricted = 31
 unfoldable pub isRestricted : ℕ → Bool
 isRestricted speed = leb 1 speed && leb speed lastRestricted
 
--- the pieces behind the speed: distance (7 bits, and 8) and release distance (4 and 8), which only a restricted speed has.
--- Outside the sub-packet each piece is a byte
+-- the pieces behind the speed: distance, 15 bits (7, and 8), and release distance, 12 (4, and 8). Outside the sub-packet each piece is a byte
+abbrev pub distances : List ℕ
+distances = 7 ∷ 8 ∷ 4 ∷ 8 ∷ []
+
+-- the same where neither is there
+abbrev pub absent : List ℕ
+absent = 0 ∷ 0 ∷ 0 ∷ 0 ∷ []
+
+-- only a restricted speed has them
 unfoldable pub behindSpeed : ℕ → List ℕ
-behindSpeed speed = cond (isRestricted speed) (7 ∷ 8 ∷ 4 ∷ 8 ∷ []) (0 ∷ 0 ∷ 0 ∷ 0 ∷ [])
+behindSpeed speed = cond (isRestricted speed) distances absent
 
 -- the greatest distance and release distance that they have room for; where they are not there, nothing but 0
 unfoldable pub lastDistance : ℕ → ℕ
@@ -41,7 +48,7 @@ lastDistance speed = cond (isRestricted speed) 32767 0
 unfoldable pub lastRelease : ℕ → ℕ
 lastRelease speed = cond (isRestricted speed) 4095 0
 
--- what is allowed: a restricted speed, and of the others unrestricted
+-- what is allowed: a restricted speed, or unrestricted
 unfoldable pub isAllowed : ℕ → Bool
 isAllowed speed = isRestricted speed || eqb speed unrestricted
 

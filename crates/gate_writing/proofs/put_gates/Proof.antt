@@ -9,7 +9,7 @@ use Rattle.numbers.proofs.PieceLaws.{pack-zero}
 use Rattle.profiles.specs.Profiles.{Profile, widthsOf}
 use Rattle.profiles.proofs.ProfileLaws.{of-none}
 use Rattle.profiles.proofs.WritingLaws.{entries-step}
-use Rattle.gates.specs.Gates.{gateProfileWith, gateBytes, gateWidths, gateBits}
+use Rattle.gates.specs.Gates.{gateProfileWith, gateBytes, gateWidths}
 use Rattle.gates.proofs.GateLaws.{regular, total-gate}
 use borrow.Author.Needs.{needs}
 use Rattle.gate_writing.proofs.put_gates.Statement.{statement}

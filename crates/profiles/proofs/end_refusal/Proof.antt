@@ -1,6 +1,6 @@
 -- `profiles::end_refusal` meets its contract: the law for each way out.
 use Prim.Native.Nat.{ℕ, _-_, _*_}
-use mathlib.Core.Path.{_≡_, ap, _∙_}
+use mathlib.Core.Path.{ap, _∙_}
 use native.Mathlib.Omega.{arith}
 use Rattle.numbers.specs.Fields.{field}
 use Rattle.fields.specs.FirstSet.{firstSet}

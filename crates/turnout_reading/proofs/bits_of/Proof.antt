@@ -1,9 +1,7 @@
 -- `turnout_reading::bits_of` meets its contract. The invariant: where the turnouts left end, all end.
-use Prim.Native.Nat.{ℕ, _+_, _-_, _*_, _≤_}
+use Prim.Native.Nat.{_+_, _-_, _*_, _≤_}
 use mathlib.Core.Path.{_≡_, sym, ap, _∙_}
-use mathlib.Core.List.{List}
 use native.Mathlib.Omega.{arith}
-use Rattle.numbers.specs.Pieces.{total}
 use Rattle.profiles.specs.Places.{entryAt}
 use Rattle.profiles.proofs.PlaceLaws.{here}
 use Rattle.turnouts.specs.Turnouts.{turnoutProfile}

@@ -1,5 +1,5 @@
 -- `turnout_reading::distances_at` meets its contract.
-use Prim.Native.Nat.{ℕ, _+_, min}
+use Prim.Native.Nat.{_+_, min}
 use mathlib.Core.Path.{_≡_, ap, _∙_}
 use native.Mathlib.Omega.{arith}
 use Rattle.numbers.specs.Fields.{field}

@@ -1,6 +1,6 @@
 -- `turnout_reading::end_at` meets its contract.
-use Prim.Native.Nat.{ℕ, _+_}
-use mathlib.Core.Path.{_≡_, ap, _∙_}
+use Prim.Native.Nat.{ℕ}
+use mathlib.Core.Path.{ap, _∙_}
 use native.Mathlib.Omega.{arith}
 use Rattle.numbers.specs.Pieces.{total}
 use Rattle.turnouts.specs.Turnouts.{behindSpeed}

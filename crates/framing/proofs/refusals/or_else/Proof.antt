@@ -1,7 +1,6 @@
 -- `framing::refusals::or_else` meets its contract.
 use mathlib.Core.Path.{sym}
 use Rattle.framing.proofs.RefusalLaws.{orElse-go, orElse-stop}
-use borrow.Author.Needs.{needs}
 use Rattle.framing.proofs.refusals.or_else.Statement.{statement}
 use Rattle.framing.proofs.refusals.or_else.Tie as tie
 
