@@ -81,15 +81,17 @@ fn write_refusal(list: &[u8], room: usize, distance: u8, most: usize) -> Refusal
     ensures { λ r. ⌜ r ≡ writeRefusal (gateProfileWith distance) most (now (list .entry)) room ⌝ }
 {
     let n = list.len() / gates::GATE_BYTES;
-    let count = profiles::count_refusal(list.len() % gates::GATE_BYTES, n, most);
-    if count.number != refusals::ACCEPTED {
-        return count;
+    if 0 < list.len() % gates::GATE_BYTES {
+        return refusals::NOT_WHOLE_ENTRIES;
+    }
+    if most < n {
+        return refusals::TOO_MANY_ENTRIES;
     }
     let refusal = list_refusal(list, distance, n);
     if refusal.number != refusals::ACCEPTED {
         return refusal;
     }
-    if room < profiles::bytes_for(gates::bits_of(distance, n as u32) as u32) {
+    if room < (gates::bits_of(distance, n as u32) + 7) / 8 {
         return refusals::NO_ROOM;
     }
     refusals::NONE
@@ -143,7 +145,7 @@ fn put_packet(out: &mut [u8], distance: u8, list: &[u8], n: usize) -> usize
     ensures { λ _. ⌜ now (out .exit) ≡ written (gateProfileWith distance) (now (list .entry)) (now (out .entry)) ⌝ }
 {
     let count = n as u32;
-    let bytes = profiles::bytes_for(gates::bits_of(distance, count) as u32);
+    let bytes = (gates::bits_of(distance, count) + 7) / 8;
     numbers::put_byte(out, bytes - 1, 0);
     numbers::put_half(
         out,

@@ -18,7 +18,7 @@ use Rattle.framing.specs.Framing.{typeOf, lengthOf, headRefusal}
 use Rattle.framing.proofs.RefusalLaws.{same-number, orElse-first, orElse-then, orElse-go, next, same, not-below, last-not-below, refuse-none, unless-none}
 use Rattle.profiles.specs.Profiles.{Profile, countOf, firstAt, bytesFor, paddingFor, widthsFor, widthsAt, widthsOf, rulesRefusal}
 use Rattle.profiles.specs.Reading.{entriesOf, bitsOf, shapeRefusal, endRefusal, readRefusal, readWith, readAnswer, readInto}
-use Rattle.profiles.specs.Writing.{entriesIn, bitsFor, sizeFor, packetWidths, packetValues, written, widthsRefusal, entryRefusal, listRefusal, countRefusal, writeRefusal, writtenWith, writeAnswer, writeInto}
+use Rattle.profiles.specs.Writing.{entriesIn, bitsFor, sizeFor, packetWidths, packetValues, written, widthsRefusal, entryRefusal, listRefusal, writeRefusal, writtenWith, writeAnswer, writeInto}
 use Rattle.profiles.specs.declared.EntriesRead.{EntriesRead}
 use Rattle.profiles.specs.declared.EntriesWritten.{EntriesWritten}
 use Rattle.profiles.proofs.ProfileLaws.{Regular, some, length-of, drop-entry, widths-read, widths-same}
@@ -140,7 +140,7 @@ module _ (f : Profile) (reg : Regular f) where
   -- the writer takes what was read, given room
   pub write-accepts : (most : ℕ) → Full f most → (s : List ℕ) (room more : ℕ) → readRefusal f s room .number ≡ 0 → lengthOf s ≤ more
       → writeRefusal f most (entriesOf f s) more .number ≡ 0
-  unfolding writeRefusal countRefusal
+  unfolding writeRefusal
   write-accepts most full s room more e fits =
       let g = accepted f s room e in
       let list : List ℕ = entriesOf f s in
@@ -149,10 +149,11 @@ module _ (f : Profile) (reg : Regular f) where
       let right : listRefusal f list (entriesIn f list) .number ≡ 0 = same-number (ap (listRefusal f list) en) ∙ entries-listed s (g .rules) in
       let size : lengthOf s ≡ sizeFor f list (entriesIn f list) = size-of f reg s room g in
       let few : countOf f s ≤ most = full s (omega (arith, g .length-right, field-lt s 4 7)) in
-      let count = not-below 0 (length list % f .pieces) _ _ (omega arith) (last-not-below most (entriesIn f list) _ (omega arith)) in
       same-number
       (sym
-      (next _ _ (same-number (sym count)) (next _ _ right (last-not-below more (sizeFor f list (entriesIn f list)) _ (omega arith)))))
+      (not-below 0 (length list % f .pieces) _ _ (omega arith)
+      (not-below most (entriesIn f list) _ _ (omega arith)
+      (next _ _ right (last-not-below more (sizeFor f list (entriesIn f list)) _ (omega arith))))))
 
 -- ---- reading what was written
 

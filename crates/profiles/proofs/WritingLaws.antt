@@ -8,7 +8,7 @@ use native.Mathlib.Nat.{add-zero, mod-add-div}
 use native.Mathlib.Omega.{arith}
 use native.Mathlib.Numerals.{add-one, one-add}
 use borrow.Author.Tests.{lt-leb, le-leb, ltb-false}
-use lib.Dec.{leb, ltb}
+use lib.Dec.{leb}
 use lib.ListN.{length, getD, drop}
 use lib.Seq.{drop-at, drop-drop, getD-drop}
 use Rattle.numbers.specs.Fields.{put}
@@ -17,11 +17,11 @@ use Rattle.numbers.specs.Numbers.{putNumber}
 use Rattle.numbers.proofs.FieldLaws.{Bytes, bytes-put}
 use Rattle.numbers.proofs.PieceLaws.{total-append, pack-append, pack-extra}
 use Rattle.numbers.proofs.JoinedLaws.{put-cleared, joined, pack-joined}
-use Rattle.framing.specs.Refusals.{none, tooWide, noRoom, refuse, orElse, unlessRefused, untold}
+use Rattle.framing.specs.Refusals.{none, tooWide, refuse, orElse, unlessRefused, untold}
 use Rattle.framing.specs.declared.refusals.Refusal.{Refusal}
-use Rattle.framing.proofs.RefusalLaws.{same-number, orElse-first, orElse-then, orElse-go, along, tested, next, ends, last-below, last-not-below, refuse-none, unless-none, unless-some}
+use Rattle.framing.proofs.RefusalLaws.{same-number, orElse-first, orElse-then, orElse-go, along, tested, ends, refuse-none, unless-none, unless-some}
 use Rattle.profiles.specs.Profiles.{Profile, firstAt, paddingFor, widthsFor, widthsOf}
-use Rattle.profiles.specs.Writing.{entriesIn, bitsFor, sizeFor, packetWidths, packetValues, written, widthsRefusal, entryRefusal, listRefusal, countRefusal, writeRefusal, writtenWith, notWritten, writeAnswer, writeInto}
+use Rattle.profiles.specs.Writing.{entriesIn, bitsFor, sizeFor, packetWidths, packetValues, written, widthsRefusal, entryRefusal, listRefusal, writeRefusal, writtenWith, notWritten, writeAnswer, writeInto}
 use Rattle.profiles.proofs.ProfileLaws.{Regular, length-of}
 
 -- a whole sub-packet takes whole bytes
@@ -130,35 +130,6 @@ module _ (f : Profile) (reg : Regular f) where
       ∙ ap (λ (x : ℕ). pack o p (widthsFor f x ++ widthsOf f (drop (f .pieces) l) (m - 1)) l) ev
       ∙ ap (λ (k : ℕ). pack o p (widthsOf f l k) l) n
 
--- ---- the ways that the judging of a write ends
-
-module _ (f : Profile) (most : ℕ) (list : List ℕ) (room : ℕ) (count : Refusal) (ec : count ≡ countRefusal (length list % f .pieces) (entriesIn f list) most) where
-  pub count-refused : (count .number ≡ 0 → ⊥) → count ≡ writeRefusal f most list room
-  unfolding writeRefusal
-  count-refused ne = ends _ _ ec ne
-
-  module _ (zc : count .number ≡ 0) (a : Refusal) (ea : a ≡ listRefusal f list (entriesIn f list)) where
-    pub list-refused : (a .number ≡ 0 → ⊥) → a ≡ writeRefusal f most list room
-    unfolding writeRefusal
-    list-refused ne = next _ _ (sym (same-number ec) ∙ zc) (ends _ _ ea ne)
-
-    -- past the entries the room decides
-    module _ (za : a .number ≡ 0) (size : ℕ) (es : size ≡ sizeFor f list (entriesIn f list)) where
-      passed : {r : Refusal} → r ≡ refuse (ltb room (sizeFor f list (entriesIn f list))) noRoom → r ≡ writeRefusal f most list room
-      unfolding writeRefusal
-      passed e = next _ _ (sym (same-number ec) ∙ zc) (next _ _ (sym (same-number ea) ∙ za) e)
-
-      pub room-refused : room < size → noRoom ≡ writeRefusal f most list room
-      room-refused l = passed (last-below room (sizeFor f list (entriesIn f list)) _ (omega arith))
-
-      pub room-enough : size ≤ room → none ≡ writeRefusal f most list room
-      room-enough l = passed (last-not-below room (sizeFor f list (entriesIn f list)) _ (omega arith))
-
--- a list that is whole entries, and no more than are written
-pub counted : (left entries most : ℕ) → countRefusal left entries most .number ≡ 0 → (left ≤ 0) × (entries ≤ most)
-unfolding countRefusal
-counted left entries most e = (ltb-false _ _ (refuse-none _ _ _ (orElse-first _ _ e)), ltb-false _ _ (refuse-none _ _ _ (orElse-then _ _ e)))
-
 -- a write that is not refused
 pub record Listed (f : Profile) (most : ℕ) (list : List ℕ) (room : ℕ) : Type 0 where
   pub whole : length list ≡ f .pieces * entriesIn f list
@@ -169,13 +140,14 @@ pub record Listed (f : Profile) (most : ℕ) (list : List ℕ) (room : ℕ) : Ty
 pub listed : (f : Profile) (most : ℕ) (list : List ℕ) (room : ℕ) → writeRefusal f most list room .number ≡ 0 → Listed f most list room
 unfolding writeRefusal
 listed f most list room e =
-    let c = counted (length list % f .pieces) (entriesIn f list) most (orElse-first _ _ e) in
     let e₁ = orElse-then _ _ e in
+    let e₂ = orElse-then _ _ e₁ in
+    let none-left : length list % f .pieces ≤ 0 = ltb-false _ _ (refuse-none _ _ _ (orElse-first _ _ e)) in
     record {
-      whole = omega (arith, c .0, mod-add-div (length list) (f .pieces));
-      few = c .1;
-      right = orElse-first _ _ e₁;
-      fits = ltb-false _ _ (refuse-none _ _ _ (orElse-then _ _ e₁));
+      whole = omega (arith, none-left, mod-add-div (length list) (f .pieces));
+      few = ltb-false _ _ (refuse-none _ _ _ (orElse-first _ _ e₁));
+      right = orElse-first _ _ e₂;
+      fits = ltb-false _ _ (refuse-none _ _ _ (orElse-then _ _ e₂));
     }
 
 -- ---- the whole sub-packet, one write after the other

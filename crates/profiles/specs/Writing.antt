@@ -45,15 +45,12 @@ unfoldable pub listRefusal : Profile → List ℕ → ℕ → Refusal
 listRefusal f list zero = none
 listRefusal f list (suc n) = orElse (entryRefusal f list) (listRefusal f (drop (f .pieces) list) n)
 
--- a list must be whole entries, with no bytes left behind them, and no more than are written
-unfoldable pub countRefusal : ℕ → ℕ → ℕ → Refusal
-countRefusal left entries most = orElse (refuse (ltb 0 left) notWholeEntries) (refuse (ltb most entries) tooManyEntries)
-
 -- the rules of a write in their order, at most `most` entries into room bytes
 unfoldable pub writeRefusal : Profile → ℕ → List ℕ → ℕ → Refusal
 writeRefusal f most list room =
-    orElse (countRefusal (length list % f .pieces) (entriesIn f list) most)
-    (orElse (listRefusal f list (entriesIn f list)) (refuse (ltb room (sizeFor f list (entriesIn f list))) noRoom))
+    orElse (refuse (ltb 0 (length list % f .pieces)) notWholeEntries)
+    (orElse (refuse (ltb most (entriesIn f list)) tooManyEntries)
+    (orElse (listRefusal f list (entriesIn f list)) (refuse (ltb room (sizeFor f list (entriesIn f list))) noRoom)))
 
 -- the answer where nothing refuses: the entries, and the bytes written
 abbrev pub writtenWith : ℕ → ℕ → EntriesWritten

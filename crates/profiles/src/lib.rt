@@ -7,7 +7,7 @@ ghost use mathlib.Core.Path.{_≡_};
 ghost use Rattle.numbers.specs.Fields.{field};
 ghost use Rattle.profiles.specs.Profiles.{bytesFor, paddingFor};
 ghost use Rattle.profiles.specs.Reading.{shapeRefusal, endRefusal, refusedFor};
-ghost use Rattle.profiles.specs.Writing.{countRefusal, notWritten};
+ghost use Rattle.profiles.specs.Writing.{notWritten};
 
 // What a read answers: 0 with the entries and the bytes of the sub-packet, or a refusal's number and place with zeros.
 #[repr(C)]
@@ -65,19 +65,6 @@ pub fn end_refusal(s: &[u8], bits: u32, bytes: usize, room: usize) -> Refusal
     }
     if room < bytes {
         return refusals::NO_ROOM;
-    }
-    refusals::NONE
-}
-
-// The refusal of a list outside a sub-packet by its entries, of which at most `most` are written, and by the bytes that are left behind whole ones.
-pub fn count_refusal(left: usize, entries: usize, most: usize) -> Refusal
-    ensures { λ r. ⌜ r ≡ countRefusal left entries most ⌝ }
-{
-    if 0 < left {
-        return refusals::NOT_WHOLE_ENTRIES;
-    }
-    if most < entries {
-        return refusals::TOO_MANY_ENTRIES;
     }
     refusals::NONE
 }

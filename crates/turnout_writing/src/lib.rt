@@ -75,9 +75,11 @@ fn write_refusal(list: &[u8], room: usize) -> Refusal
     ensures { λ r. ⌜ r ≡ writeRefusal turnoutProfile mostTurnouts (now (list .entry)) room ⌝ }
 {
     let n = list.len() / turnouts::TURNOUT_BYTES;
-    let count = profiles::count_refusal(list.len() % turnouts::TURNOUT_BYTES, n, MOST_TURNOUTS);
-    if count.number != refusals::ACCEPTED {
-        return count;
+    if 0 < list.len() % turnouts::TURNOUT_BYTES {
+        return refusals::NOT_WHOLE_ENTRIES;
+    }
+    if MOST_TURNOUTS < n {
+        return refusals::TOO_MANY_ENTRIES;
     }
     let refusal = list_refusal(list, n);
     if refusal.number != refusals::ACCEPTED {
