@@ -16,19 +16,21 @@
  * cut, so that 4,294,967,303 is loco 7, and -1 is 4,294,967,295, which is KB_NONE. Judge such numbers first; gcc shows them
  * by -Wconversion -Wsign-conversion.
  *
- * PLACES. A refused kb_frame, kb_read_gates or kb_read_turnouts also tells in `place` where it broke: the position of the first bit
- * of the field at fault, counted from the start of the sub-packet, whose bit 0 is the top bit of its first byte.
+ * PLACES. A refused kb_frame, kb_read_gates or kb_read_turnouts also tells in `place` where it broke: the position of the
+ * first bit of the field at fault, counted from the start of the sub-packet, whose bit 0 is the top bit of its first byte.
  *   answer 2: 0, the type
- *   answer 3: 4, the length, where it is below 2; 11, the count, where the length is not the one for so many gates, or for these turnouts
- *   answer 4: the first field that is not allowed: gate by gate, and in a gate number, suffix, class, whistling type; turnout by
- *             turnout, and in a turnout the speed
+ *   answer 3: 4, the length, where it is below 2; 11, the count, where the length is not the one for so many gates, or for
+ *             these turnouts
+ *   answer 4: the first field that is not allowed: gate by gate, and in a gate number, suffix, class, whistling type; turnout
+ *             by turnout, and in a turnout the speed
  *   answer 5: the first bit of the padding that is set
  *   answer 1, and an accepted call: 0, since no field is at fault
- * FROM A PLACE TO A FIELD, for answer 4 of gates: the gate is (place - 16) / 35, counted from 0, and what is left, (place - 16) % 35,
- * is 15 for its number, 25 for its suffix, 29 for its class, 33 for its whistling type. Of turnouts: the field is a speed, and the
- * turnout is (place - 13) % 27 / 5, counted from 0, since each one before it takes 5 bits, and 27 more where it has distances. So 13 is
- * the first one's, 18 and 45 are the second's, 23, 50 and 77 the third's. The names for these numbers stand below (KB_FIRST_GATE_AT,
- * KB_FIRST_TURNOUT_AT and the others), and examples/host.c says a place in words. The writers tell no place.
+ * FROM A PLACE TO A FIELD, for answer 4. Of gates: the gate is (place - 16) / 35, counted from 0, and what is left,
+ * (place - 16) % 35, is 15 for its number, 25 for its suffix, 29 for its class, 33 for its whistling type. Of turnouts: the
+ * field is a speed, and the turnout is (place - 13) % 27 / 5, counted from 0, since each one before it takes 5 bits, and 27
+ * more where it has distances. So 13 is the first one's, 18 and 45 are the second's, 23, 50 and 77 the third's. The names for
+ * these numbers stand below (KB_FIRST_GATE_AT, KB_FIRST_TURNOUT_AT and the others), and examples/host.c says a place in words.
+ * The writers tell no place.
  *
  * BUFFERS. A buffer is a pointer and its length in bytes, and that many bytes must be there: the library cannot see a length
  * that lies. A buffer that a call changes must not overlap another buffer of the same call. Nothing before a buffer's start
@@ -70,10 +72,11 @@ enum kb_reason {
     /* Sub-packets. */
     KB_SHORT = 1,       /* fewer than 2 bytes, or fewer than the length says; or the output is too small */
     KB_TYPE = 2,        /* type 8 to 15; for gates: a type that is not 3; for turnouts: a type that is not 4 */
-    KB_LENGTH = 3,      /* length below 2; for gates: not the length for the count; for turnouts: not their length, or one of them
-                           runs past the sub-packet; writing: not 9 bytes a gate or 5 a turnout, or over 28 gates or 3 turnouts */
-    KB_FIELD = 4,       /* a gate's or a turnout's field whose value is not allowed or, writing, too large for its width; writing
-                           turnouts: a distance that is absent and not zero */
+    KB_LENGTH = 3,      /* length below 2; for gates: not the length for the count; for turnouts: not their length, or one of
+                           them runs past the sub-packet; writing: not 9 bytes a gate or 5 a turnout, or over 28 gates or 3
+                           turnouts */
+    KB_FIELD = 4,       /* a gate's or a turnout's field whose value is not allowed or, writing, too large for its width;
+                           writing turnouts: a distance that is absent and not zero */
     KB_PADDING = 5,     /* the bits that fill up the last byte are not zero */
     /* Sessions, the mode step and the frame age. */
     KB_LOCO = 10,       /* a loco number that is not 1 to 131,070, of a request too */
@@ -131,7 +134,8 @@ typedef struct kb_session {
 #define KB_CLASS_AT 29
 #define KB_WHISTLING_TYPE_AT 33
 
-/* The bit position of the first turnout in a sub-packet; the bits of a turnout that is its speed alone, and of one with distances. */
+/* The bit position of the first turnout in a sub-packet; the bits of a turnout that is its speed alone, and of one with
+ * distances. */
 #define KB_FIRST_TURNOUT_AT 13
 #define KB_SPEED_BITS 5
 #define KB_TURNOUT_BITS 32
@@ -196,15 +200,15 @@ typedef struct kb_turnouts_read {
     size_t bytes;    /* bytes of the sub-packet that was read */
 } kb_turnouts_read;
 
-/* Reads the turnout sub-packet that `bytes` begins with into `turnouts`, and ignores what follows it. A turnout takes KB_TURNOUT_SIZE
- * bytes there: speed 1, distance 2, release distance 2, high byte first. The speed is a code: 1 to 18 are 5 to 90 km/h in steps of 5,
- * 31 is unrestricted, 0 is unused, and 19 to 30 are reserved. A restricted speed, 1 to 18, carries both distances, in metres; no other
- * does, and where they are absent they are zero in `turnouts`. In the sub-packet a turnout takes 32 bits where it has them (speed 5,
- * distance 15, release distance 12), else the 5 of its speed.
+/* Reads the turnout sub-packet that `bytes` begins with into `turnouts`, and ignores what follows it. A turnout takes
+ * KB_TURNOUT_SIZE bytes there: speed 1, distance 2, release distance 2, high byte first. The speed is a code: 1 to 18 are 5 to
+ * 90 km/h in steps of 5, 31 is unrestricted, 0 is unused, and 19 to 30 are reserved. A restricted speed, 1 to 18, carries both
+ * distances, in metres; no other does, and where they are absent they are zero in `turnouts`. In the sub-packet a turnout
+ * takes 32 bits where it has them (speed 5, distance 15, release distance 12), else the 5 of its speed.
  * Changes: the first 5 bytes a turnout of `turnouts`; what lies behind them stays.
  * Refused: 1 fewer than 2 bytes; 2 type not 4; 3 length below 2; 1 fewer bytes than the length says; 3 a turnout runs past the
- * sub-packet, or the length is not the turnouts', which is (13 + their bits) / 8 rounded up; 4 a speed of 0 or 19 to 30, which takes
- * 5 bits too; 5 padding not zero; 1 `turnouts` too small. */
+ * sub-packet, or the length is not the turnouts', which is (13 + their bits) / 8 rounded up; 4 a speed of 0 or 19 to 30, which
+ * takes 5 bits too; 5 padding not zero; 1 `turnouts` too small. */
 kb_turnouts_read kb_read_turnouts(const uint8_t *bytes, size_t bytes_len, uint8_t *turnouts, size_t turnouts_len);
 
 typedef struct kb_turnouts_written {
@@ -216,8 +220,9 @@ typedef struct kb_turnouts_written {
 /* Writes all of `turnouts`, laid out as kb_read_turnouts leaves them, as one sub-packet to the start of `bytes`.
  * KB_TURNOUT_PACKET_SIZE bytes always do. Writing what was read gives the same sub-packet again.
  * Changes: the sub-packet's bytes of `bytes`; what lies behind them stays.
- * Refused: 3 `turnouts` not a multiple of 5 bytes, or over 3 turnouts; 4 a speed that is not 1 to 18 or 31, a distance above 32,767, a
- * release distance above 4,095, or a distance of either kind that is not zero beside a speed of 31; 1 `bytes` too small. */
+ * Refused: 3 `turnouts` not a multiple of 5 bytes, or over 3 turnouts; 4 a speed that is not 1 to 18 or 31, a distance above
+ * 32,767, a release distance above 4,095, or a distance of either kind that is not zero beside a speed of 31; 1 `bytes` too
+ * small. */
 kb_turnouts_written kb_write_turnouts(const uint8_t *turnouts, size_t turnouts_len, uint8_t *bytes, size_t bytes_len);
 
 typedef struct kb_age_answer {

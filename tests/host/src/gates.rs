@@ -48,10 +48,8 @@ pub fn list(random: &mut Random) -> Vec<u8> {
         }
         2 | 3 => change_byte(random, &mut list),
         4 => {
-            list = {
-                let length = random.below(40) as usize;
-                random.bytes(length)
-            }
+            let length = random.below(40) as usize;
+            list = random.bytes(length);
         }
         _ => {}
     }
