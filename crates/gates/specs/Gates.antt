@@ -15,11 +15,12 @@ distanceWidth = 15
 abbrev pub gateBytes : ℕ  -- the bytes of a gate outside a sub-packet
 gateBytes = 9
 
--- the pieces of a gate: distance (its high bits, and 8), number (2 and 8), suffix, manning, class, whistling, whistling type.
--- Outside the sub-packet each piece is a byte
+-- the pieces of a gate behind the first, which is the high bits of the distance: 8 more of it, number (2 and 8), suffix, manning, class, whistling,
+-- whistling type
 abbrev pub behindFirst : List ℕ
 behindFirst = 8 ∷ 2 ∷ 8 ∷ 3 ∷ 1 ∷ 3 ∷ 1 ∷ 2 ∷ []
 
+-- all of them. Outside the sub-packet each piece is a byte
 unfoldable pub gateWidths : ℕ → List ℕ
 gateWidths distance = (distance - 8) ∷ behindFirst
 

@@ -40,7 +40,7 @@ widthsRefusal (w ∷ ws) list = orElse (refuse (leb (2 ^ w) (getD list 0 0)) too
 unfoldable pub entryRefusal : Profile → List ℕ → Refusal
 entryRefusal f list = orElse (widthsRefusal (widthsFor f (getD list 0 0)) list) (untold (f .rules list))
 
--- of its first n entries
+-- the first refusal of its first n entries
 unfoldable pub listRefusal : Profile → List ℕ → ℕ → Refusal
 listRefusal f list zero = none
 listRefusal f list (suc n) = orElse (entryRefusal f list) (listRefusal f (drop (f .pieces) list) n)

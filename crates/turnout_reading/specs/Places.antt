@@ -4,13 +4,14 @@ use mathlib.Core.Bool.{true, false}
 use mathlib.Core.List.{List}
 use Prim.Native.Nat.{ℕ, _<_}
 use Rattle.numbers.specs.Fields.{field}
-use Rattle.profiles.specs.Places.{entryAt}
+use Rattle.profiles.specs.{Profiles.firstAt, Places.entryAt}
 use Rattle.turnouts.specs.Turnouts.{turnoutProfile, speedBits, isAllowed}
 
 -- where turnout i starts, which is where its speed does; turnouts are counted from 0, and the first of them starts at bit 13
 abbrev pub speedAt : List ℕ → ℕ → ℕ
-speedAt s i = entryAt turnoutProfile s 13 i
+speedAt s i = entryAt turnoutProfile s (firstAt turnoutProfile) i
 
+-- its value there
 abbrev pub speedOf : List ℕ → ℕ → ℕ
 speedOf s i = field s (speedAt s i) speedBits
 
