@@ -44,6 +44,12 @@ paddingSet p = record { number = 5; place = p }
 abbrev pub noRoom : Refusal  -- an output too small
 noRoom = record { number = 1; place = nowhere }
 
+abbrev pub tooManyToMove : Refusal  -- more gates than the form holds to which they are moved
+tooManyToMove = record { number = 3; place = countAt }
+
+abbrev pub noOtherForm : ℕ → Refusal  -- a distance that the form to which it is moved cannot say, which starts at bit p
+noOtherForm p = record { number = 6; place = p }
+
 -- a writer judges no sub-packet, so its own grounds have no place
 
 abbrev pub notWholeEntries : Refusal  -- bytes outside a sub-packet that are no whole entries

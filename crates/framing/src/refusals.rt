@@ -1,7 +1,7 @@
 // The grounds of refusal, each with its number and its place: the first bit of the field at fault, counted from the start of the sub-packet, and 0
 // where no field is at fault.
 ghost use mathlib.Core.Path.{_≡_};
-ghost use Rattle.framing.specs.Refusals.{notAllowed, paddingSet, orElse};
+ghost use Rattle.framing.specs.Refusals.{notAllowed, paddingSet, noOtherForm, orElse};
 
 // A ground that holds, or none.
 pub struct Refusal {
@@ -63,6 +63,12 @@ pub const NO_ROOM: Refusal = Refusal {
     place: NOWHERE,
 };
 
+// more gates than the form holds to which they are moved
+pub const TOO_MANY_TO_MOVE: Refusal = Refusal {
+    number: 3,
+    place: COUNT_AT,
+};
+
 // bytes outside a sub-packet that are no whole entries
 pub const NOT_WHOLE_ENTRIES: Refusal = Refusal {
     number: 3,
@@ -93,6 +99,13 @@ pub fn padding_set(place: usize) -> Refusal
     ensures { λ r. ⌜ r ≡ paddingSet place ⌝ }
 {
     Refusal { number: 5, place }
+}
+
+// a distance that the form to which it is moved cannot say, which starts at bit `place`
+pub fn no_other_form(place: usize) -> Refusal
+    ensures { λ r. ⌜ r ≡ noOtherForm place ⌝ }
+{
+    Refusal { number: 6, place }
 }
 
 // The first refusal, or else the next.

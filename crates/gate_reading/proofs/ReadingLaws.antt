@@ -64,7 +64,7 @@ digits-ruled distance x =
 
 -- the two bytes of a distance are its high and its low one
 module _ (distance : ℕ) (s : List ℕ) (p : ℕ) (h : 8 ≤ distance) where
-  distance-split : field s p distance ≡ field s p (distance - 8) * 256 + field s (p + (distance - 8)) 8
+  pub distance-split : field s p distance ≡ field s p (distance - 8) * 256 + field s (p + (distance - 8)) 8
   distance-split =
       let e : distance ≡ distance - 8 + 8 = omega arith in
       ap (field s p) e ∙ field-add s p (distance - 8) 8

@@ -2,6 +2,7 @@
 // one number that its bits are, so that it is loaded once. `distance` is the width of a gate's distance.
 use framing::refusals;
 use framing::refusals::Refusal;
+use gates::forms::Form;
 use profiles::EntriesRead;
 ghost use mathlib.Core.Path.{_≡_};
 ghost use mathlib.Core.List.{[], _∷_};
@@ -14,6 +15,7 @@ ghost use Rattle.framing.specs.Refusals.{orElse, unlessRefused};
 ghost use Rattle.profiles.specs.Profiles.{rulesRefusal};
 ghost use Rattle.profiles.specs.Reading.{endRefusal, readAnswer, readInto};
 ghost use Rattle.gates.specs.Gates.{gateProfile, gateProfileWith, gateBytes, gateBits, bitsWith, gateRefusal};
+ghost use Rattle.gates.specs.Forms.{profileIn};
 ghost use Rattle.gate_reading.specs.Steps.{firstGates, digits, spread, rulesFrom};
 
 // The most gates that a count of 5 bits can say.
@@ -139,19 +141,20 @@ fn take_gates(s: &[u8], distance: u8, n: usize, out: &mut [u8]) -> Refusal
     refusals::NONE
 }
 
-// Reads the gate sub-packet that `s` begins with into `out`, 9 bytes for each gate. What follows the sub-packet is ignored, and what lies
-// behind the gates in `out` stays.
-pub fn read_gates(s: &[u8], out: &mut [u8]) -> EntriesRead
-    ensures { λ r. ⌜ r ≡ readAnswer gateProfile (now (s .entry)) (now (out .entry)) ⌝ }
-    ensures { λ _. ⌜ now (out .exit) ≡ readInto gateProfile (now (s .entry)) (now (out .entry)) ⌝ }
+// Reads the gate sub-packet of a form that `s` begins with into `out`, 9 bytes for each gate. What follows the sub-packet is ignored, and what
+// lies behind the gates in `out` stays.
+pub fn read_gates_in(form: Form, s: &[u8], out: &mut [u8]) -> EntriesRead
+    ensures { λ r. ⌜ r ≡ readAnswer (profileIn form) (now (s .entry)) (now (out .entry)) ⌝ }
+    ensures { λ _. ⌜ now (out .exit) ≡ readInto (profileIn form) (now (s .entry)) (now (out .entry)) ⌝ }
 {
+    let layout = form.layout();
     let count = gates::count_of(s);
-    let bits = gates::bits_of(gates::DISTANCE_WIDTH, count as u32) as u32;
+    let bits = gates::bits_of(layout.distance, count as u32) as u32;
     let shape = profiles::shape_refusal(s, gates::GATE_TYPE, bits);
     if shape.number != refusals::ACCEPTED {
         return profiles::refused(shape);
     }
-    let refusal = take_gates(s, gates::DISTANCE_WIDTH, count, out);
+    let refusal = take_gates(s, layout.distance, count, out);
     if refusal.number != refusals::ACCEPTED {
         return profiles::refused(refusal);
     }
@@ -161,4 +164,12 @@ pub fn read_gates(s: &[u8], out: &mut [u8]) -> EntriesRead
         entries: count,
         bytes: framing::length_of(s),
     }
+}
+
+// The same of the new form.
+pub fn read_gates(s: &[u8], out: &mut [u8]) -> EntriesRead
+    ensures { λ r. ⌜ r ≡ readAnswer gateProfile (now (s .entry)) (now (out .entry)) ⌝ }
+    ensures { λ _. ⌜ now (out .exit) ≡ readInto gateProfile (now (s .entry)) (now (out .entry)) ⌝ }
+{
+    read_gates_in(Form::New, s, out)
 }

@@ -2,6 +2,7 @@
 // width of a gate's distance.
 use framing::refusals;
 use framing::refusals::Refusal;
+use gates::forms::Form;
 use profiles::EntriesWritten;
 ghost use mathlib.Core.Path.{_≡_};
 ghost use Prim.Native.Nat.{_+_, _*_, _≤_};
@@ -10,8 +11,7 @@ ghost use Rattle.numbers.specs.Pieces.{pack};
 ghost use Rattle.profiles.specs.Profiles.{bytesFor, widthsOf};
 ghost use Rattle.profiles.specs.Writing.{written, entryRefusal, listRefusal, writeRefusal, writeAnswer, writeInto};
 ghost use Rattle.gates.specs.Gates.{gateProfile, gateProfileWith, gateBytes, gateWidths, bitsWith, mostGates};
-
-const MOST_GATES: usize = 28;
+ghost use Rattle.gates.specs.Forms.{layoutOf, profileIn};
 
 fn wide(x: u8) -> u32
     ensures { λ r. ⌜ (r ≡ x) × (r ≤ 255) ⌝ }
@@ -156,20 +156,29 @@ fn put_packet(out: &mut [u8], distance: u8, list: &[u8], n: usize) -> usize
     bytes
 }
 
-// Writes the gates of `list`, 9 bytes for each, as a sub-packet from the start of `out`. What lies behind it in `out` stays.
-pub fn write_gates(list: &[u8], out: &mut [u8]) -> EntriesWritten
-    ensures { λ r. ⌜ r ≡ writeAnswer gateProfile mostGates (now (list .entry)) (now (out .entry)) ⌝ }
-    ensures { λ _. ⌜ now (out .exit) ≡ writeInto gateProfile mostGates (now (list .entry)) (now (out .entry)) ⌝ }
+// Writes the gates of `list`, 9 bytes for each, as a sub-packet of a form from the start of `out`. What lies behind it in `out` stays.
+pub fn write_gates_in(form: Form, list: &[u8], out: &mut [u8]) -> EntriesWritten
+    ensures { λ r. ⌜ r ≡ writeAnswer (profileIn form) (layoutOf form .most) (now (list .entry)) (now (out .entry)) ⌝ }
+    ensures { λ _. ⌜ now (out .exit) ≡ writeInto (profileIn form) (layoutOf form .most) (now (list .entry)) (now (out .entry)) ⌝ }
 {
-    let judged = write_refusal(list, out.len(), gates::DISTANCE_WIDTH, MOST_GATES);
+    let layout = form.layout();
+    let judged = write_refusal(list, out.len(), layout.distance, layout.most);
     if judged.number != refusals::ACCEPTED {
         return profiles::not_written(judged);
     }
     let entries = list.len() / gates::GATE_BYTES;
-    let bytes = put_packet(out, gates::DISTANCE_WIDTH, list, entries);
+    let bytes = put_packet(out, layout.distance, list, entries);
     EntriesWritten {
         answer: refusals::ACCEPTED,
         entries,
         bytes,
     }
+}
+
+// The same of the new form.
+pub fn write_gates(list: &[u8], out: &mut [u8]) -> EntriesWritten
+    ensures { λ r. ⌜ r ≡ writeAnswer gateProfile mostGates (now (list .entry)) (now (out .entry)) ⌝ }
+    ensures { λ _. ⌜ now (out .exit) ≡ writeInto gateProfile mostGates (now (list .entry)) (now (out .entry)) ⌝ }
+{
+    write_gates_in(Form::New, list, out)
 }

@@ -1,25 +1,29 @@
 -- Laws of a gate's layout.
 use mathlib.Core.Path.{_≡_, refl, ap, _∙_}
 use mathlib.Core.List.{List, _∷_, _++_}
-use mathlib.Core.Bool.{Bool}
+use mathlib.Core.Bool.{Bool, true, false}
 use mathlib.Core.Logic.{_⊎_, inl, inr}
 use Prim.Native.Nat.{ℕ, _+_, _-_, _*_, _≤_, _<_}
 use native.Mathlib.Nat.{mul-le-mul, mul-suc}
 use native.Mathlib.Numerals.{add-one}
 use native.Mathlib.Omega.{arith}
+use lib.Dec.{ltb}
 use lib.ListN.{length, getD, List·getD-append}
 use Rattle.numbers.specs.Pieces.{total, times}
-use Rattle.framing.specs.Refusals.{none, notAllowed, refuse, orElse}
+use Rattle.framing.specs.Refusals.{none, notAllowed, refuse, orElse, unlessRefused}
 use Rattle.framing.specs.declared.refusals.Refusal.{Refusal}
 use Rattle.framing.proofs.RefusalLaws.{tested, tried}
-use Rattle.profiles.specs.Profiles.{countOf, widthsAt, widthsOf}
+use Rattle.profiles.specs.Profiles.{countOf, bytesFor, widthsAt, widthsOf}
 use Rattle.profiles.specs.Reading.{bitsOf}
 use Rattle.profiles.specs.Writing.{bitsFor}
 use Rattle.profiles.specs.Promised.{Promised}
 use Rattle.profiles.proofs.ProfileLaws.{Regular, steady-at, steady-of}
 use Rattle.profiles.proofs.RoundTrip.{Sayable, Full}
 use Rattle.profiles.proofs.Promise.{promised as every}
-use Rattle.gates.specs.Gates.{gateBytes, gateWidths, gateBits, bitsWith, gateRules, gateRefusal, behindFirst, gateProfileWith, gateProfile, distanceWidth, mostGates}
+use Rattle.gates.specs.Gates.{gateBytes, gateWidths, gateBits, bitsWith, gateRules, gateRefusal, behindFirst, gateProfileWith, gateProfile, distanceWidth, mostGates, lastWhistle}
+use Rattle.gates.specs.Forms.{layoutOf, otherForm, profileIn}
+use Rattle.gates.specs.{declared.forms.Form.Form, declared.forms.Form.the-variants.Old, declared.forms.Form.the-variants.New}
+use Rattle.numbers.proofs.FieldLaws.{field-lt}
 use Rattle.numbers.proofs.PieceLaws.{total-times}
 
 pub total-gate : (distance : ℕ) → 8 ≤ distance → total (gateWidths distance) ≡ gateBits distance
@@ -54,6 +58,22 @@ rules-hold P distance number suffix class whistle nothing field =
 pub place-in-gate : (distance number suffix class whistle : ℕ) → gateRules distance number suffix class whistle .place < gateBits distance
 place-in-gate distance number suffix class whistle =
     rules-hold (λ (r : Refusal). r .place < gateBits distance) distance number suffix class whistle (omega arith) (λ p h. h)
+
+-- and whether they refuse does not hang on the width of the distance, which moves the places alone
+same-test : (t : Bool) (p q : ℕ) → refuse t (notAllowed p) .number ≡ refuse t (notAllowed q) .number
+unfolding refuse
+same-test true p q = refl
+same-test false p q = refl
+
+same-chain : (t : Bool) (p q : ℕ) (r u : Refusal) → r .number ≡ u .number → orElse (refuse t (notAllowed p)) r .number ≡ orElse (refuse t (notAllowed q)) u .number
+unfolding orElse refuse unlessRefused
+same-chain true p q r u e = refl
+same-chain false p q r u e = e
+
+pub rules-number : (distance other number suffix class whistle : ℕ) → gateRules distance number suffix class whistle .number ≡ gateRules other number suffix class whistle .number
+unfolding gateRules
+rules-number distance other number suffix class whistle =
+    same-chain _ _ _ _ _ (same-chain _ _ _ _ _ (same-chain _ _ _ _ _ (same-chain _ _ _ _ _ (same-test (ltb lastWhistle whistle) _ _))))
 
 -- ---- gates as a profile
 
@@ -104,17 +124,59 @@ module _ (distance : ℕ) where
     pub bits-for : (list : List ℕ) (n : ℕ) → bitsFor (gateProfileWith distance) list n ≡ bitsWith distance n
     bits-for list n = ap (λ (ws : List ℕ). 16 + total ws) (widths-of list n) ∙ bits-gates distance n wide
 
--- with the width and the limit that the bench has, the header can say what is written, and no more
-sayable : Sayable gateProfile mostGates
-sayable = record {
-  kinds = omega arith;
-  counts = omega arith;
-  lengths = λ list n few. omega (arith, bits-for distanceWidth (omega arith) list n);
-}
+-- ---- the two forms
 
-full : Full gateProfile mostGates
-full s short = omega (arith, bits-read distanceWidth (omega arith) s)
+pub each-form : (P : Form → Type 0) → P Old → P New → (form : Form) → P form
+each-form P old new Old = old
+each-form P old new New = new
 
--- WHAT IS PROMISED of gates read and written
+pub other-other : (form : Form) → otherForm (otherForm form) ≡ form
+unfolding otherForm
+other-other = each-form (λ (f : Form). otherForm (otherForm f) ≡ f) refl refl
+
+module _ (form : Form) where
+  pub form-wide : 8 ≤ layoutOf form .distance
+  unfolding layoutOf
+  form-wide = each-form (λ (f : Form). 8 ≤ layoutOf f .distance) (omega arith) (omega arith) form
+
+  pub form-narrow : layoutOf form .distance ≤ 15
+  unfolding layoutOf
+  form-narrow = each-form (λ (f : Form). layoutOf f .distance ≤ 15) (omega arith) (omega arith) form
+
+  pub form-most : layoutOf form .most ≤ 31
+  unfolding layoutOf
+  form-most = each-form (λ (f : Form). layoutOf f .most ≤ 31) (omega arith) (omega arith) form
+
+  pub form-unit : (0 < layoutOf form .unit) × (layoutOf form .unit ≤ 10)
+  unfolding layoutOf
+  form-unit = each-form (λ (f : Form). (0 < layoutOf f .unit) × (layoutOf f .unit ≤ 10)) (omega arith, omega arith) (omega arith, omega arith) form
+
+  pub regular-in : Regular (profileIn form)
+  regular-in = regular (layoutOf form .distance) form-wide
+
+-- with the width and the limit of a form, the header can say what is written, and no more
+pub sayable : (form : Form) → Sayable (profileIn form) (layoutOf form .most)
+unfolding layoutOf
+sayable = each-form (λ (f : Form). Sayable (profileIn f) (layoutOf f .most)) (of Old (λ n few. omega arith)) (of New (λ n few. omega arith))
+  where
+    of : (form : Form) → ((n : ℕ) → n ≤ layoutOf form .most → bytesFor (bitsWith (layoutOf form .distance) n) ≤ 127) → Sayable (profileIn form) (layoutOf form .most)
+    of form short = record {
+      kinds = omega arith;
+      counts = omega (arith, form-most form);
+      lengths = λ list n few. omega (arith, short n few, bits-for (layoutOf form .distance) (form-wide form) list n);
+    }
+
+pub full : (form : Form) → Full (profileIn form) (layoutOf form .most)
+unfolding layoutOf
+full = each-form (λ (f : Form). Full (profileIn f) (layoutOf f .most))
+    (λ s short. omega (arith, field-lt s 11 5))
+    (λ s short. omega (arith, bits-read distanceWidth (omega arith) s))
+
+-- WHAT IS PROMISED of gates read and written, of either form
+pub promised-in : (form : Form) → Promised (profileIn form) (layoutOf form .most)
+promised-in form = every (profileIn form) (layoutOf form .most) (regular-in form) (omega arith) (sayable form) (full form)
+
+-- and so of those that the bench reads and writes
 pub promised : Promised gateProfile mostGates
-promised = every gateProfile mostGates (regular distanceWidth (omega arith)) (omega arith) sayable full
+unfolding layoutOf
+promised = promised-in New

@@ -1,4 +1,6 @@
 // What reading and writing gates share: the bits of a gate, and what is allowed in it. `distance` is the width of a gate's distance.
+pub mod forms;
+
 use framing::refusals;
 use framing::refusals::Refusal;
 ghost use mathlib.Core.Path.{_≡_};
@@ -7,8 +9,6 @@ ghost use Rattle.profiles.specs.Profiles.{countOf};
 ghost use Rattle.gates.specs.Gates.{gateProfile, gateBits, bitsWith, gateRules};
 
 pub const GATE_TYPE: u32 = 3;
-
-pub const DISTANCE_WIDTH: u8 = 15;
 
 pub const GATE_BYTES: usize = 9;
 

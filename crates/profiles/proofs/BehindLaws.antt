@@ -30,7 +30,7 @@ module _ (f : Profile) (small : Headers f) (s : List ℕ) (n : ℕ) (two : 2 ≤
   length-same : lengthOf (take n s) ≡ lengthOf s
   length-same = length-front s n two whole enough
 
-  count-front : countOf f (take n s) ≡ countOf f s
+  pub count-front : countOf f (take n s) ≡ countOf f s
   count-front = field-front s countAt (f .countWidth) n (omega arith)
 
   -- entries that end in these bytes by either reading have the same widths
@@ -56,7 +56,7 @@ module _ (f : Profile) (small : Headers f) (s : List ℕ) (n : ℕ) (two : 2 ≤
     ends-in : bitsOf f s ≤ 8 * n
     ends-in = omega arith
 
-    entries-front : entriesOf f s ≡ entriesOf f (take n s)
+    pub entries-front : entriesOf f s ≡ entriesOf f (take n s)
     unfolding entriesOf bitsOf
     entries-front =
         sym (unpack-front s (firstAt f) (widthsAt f s (firstAt f) (countOf f s)) n ends-in)
@@ -78,7 +78,7 @@ module _ (f : Profile) (small : Headers f) (s : List ℕ) (n : ℕ) (two : 2 ≤
     rest-front room = λ i. orElse (rulesRefusal f (firstAt f) (entries-front i) (sym count-front i))
         (orElse (padding-front i) (roomRefusal (f .pieces * sym count-front i) room))
 
-  refusal-front : (room : ℕ) → readRefusal f s room ≡ readRefusal f (take n s) room
+  pub refusal-front : (room : ℕ) → readRefusal f s room ≡ readRefusal f (take n s) room
   unfolding readRefusal shapeRefusal
   refusal-front room = of (ℕ-discrete (lengthOf s) (bytesFor (bitsOf f s)))
     where

@@ -133,7 +133,7 @@ module _ (f : Profile) (reg : Regular f) where
       ∙ read-listed s (p + total ws) n (same-number (ap (λ (l : List ℕ). rulesRefusal f (p + total ws) l n) (sym rest)) ∙ e₂) in
       same-number (orElse-go _ _ (same-number (orElse-go _ _ (widths-fitting s p ws more)) ∙ e₁)) ∙ left
 
-  entries-listed : (s : List ℕ) → rulesRefusal f (firstAt f) (entriesOf f s) (countOf f s) .number ≡ 0 → listRefusal f (entriesOf f s) (countOf f s) .number ≡ 0
+  pub entries-listed : (s : List ℕ) → rulesRefusal f (firstAt f) (entriesOf f s) (countOf f s) .number ≡ 0 → listRefusal f (entriesOf f s) (countOf f s) .number ≡ 0
   unfolding entriesOf
   entries-listed s = read-listed s (firstAt f) (countOf f s)
 

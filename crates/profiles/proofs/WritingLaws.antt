@@ -14,7 +14,7 @@ use lib.Seq.{drop-at, drop-drop, getD-drop}
 use Rattle.numbers.specs.Fields.{put}
 use Rattle.numbers.specs.Pieces.{total, pack}
 use Rattle.numbers.specs.Numbers.{putNumber}
-use Rattle.numbers.proofs.FieldLaws.{Bytes, bytes-put}
+use Rattle.numbers.proofs.FieldLaws.{Bytes, bytes-put, lt-or-le}
 use Rattle.numbers.proofs.PieceLaws.{total-append, pack-append, pack-extra}
 use Rattle.numbers.proofs.JoinedLaws.{put-cleared, joined, pack-joined}
 use Rattle.framing.specs.Refusals.{none, tooWide, refuse, orElse, unlessRefused, untold}
@@ -66,6 +66,19 @@ widths-wide (w ∷ ws) list zero h l = rw (le-leb (2 ^ w) (getD list 0 0) l)
 widths-wide (w ∷ ws) list (suc k) h l =
     only-last _ _ (only-refuse (leb (2 ^ w) (getD list 0 0)))
     (widths-wide ws (drop 1 list) k (omega arith) (rw (getD-drop 1 list k 0, one-add k) l))
+
+-- so where none is refused each has room, and the other way round
+pub widths-each : (ws list : List ℕ) → widthsRefusal ws list .number ≡ 0 → (k : ℕ) → k < length ws → getD list k 0 < 2 ^ getD ws k 0
+widths-each ws list e k h =
+    ⊎-elim (λ (l : getD list k 0 < 2 ^ getD ws k 0). l)
+    (λ (l : 2 ^ getD ws k 0 ≤ getD list k 0). absurd (omega (arith, e, same-number (widths-wide ws list k h l)))) (lt-or-le _ _)
+
+pub widths-all : (ws list : List ℕ) → ((k : ℕ) → k < length ws → getD list k 0 < 2 ^ getD ws k 0) → widthsRefusal ws list .number ≡ 0
+unfolding widthsRefusal orElse refuse unlessRefused
+widths-all [] list h = refl
+widths-all (w ∷ ws) list h =
+    let behind : (k : ℕ) → k < length ws → getD (drop 1 list) k 0 < 2 ^ getD ws k 0 = λ k l. rw (getD-drop 1 list k 0, one-add k) (h (suc k) (omega arith)) in
+    simp (lt-leb (2 ^ w) (getD list 0 0) (h 0 (omega arith))) (widths-all ws (drop 1 list) behind)
 
 -- a byte of what is left of a list
 pub first-byte : (list : List ℕ) (k : ℕ) → getD (drop k list) 0 0 ≡ getD list k 0
