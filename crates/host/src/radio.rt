@@ -1,5 +1,8 @@
-// What needs no session: a sub-packet's frame, gates and turnouts read and written, the age of a frame, and the mode step.
+// What needs no session: a sub-packet's frame, gates and turnouts read and written, gates moved between their two forms, the age of a frame, and the
+// mode step.
 use clock::FrameAge;
+use gate_moving::GatesMoved;
+use gates::forms::Form;
 use modes::Step;
 use profiles::EntriesRead;
 use profiles::EntriesWritten;
@@ -9,6 +12,8 @@ ghost use Rattle.modes.specs.Next.{nextStep};
 ghost use Rattle.profiles.specs.Reading.{readAnswer, readInto};
 ghost use Rattle.profiles.specs.Writing.{writeAnswer, writeInto};
 ghost use Rattle.gates.specs.Gates.{gateProfile, mostGates};
+ghost use Rattle.gates.specs.{declared.forms.Form.the-variants.Old, declared.forms.Form.the-variants.New};
+ghost use Rattle.gate_moving.specs.Moving.{moveAnswer, moveInto};
 ghost use Rattle.turnouts.specs.Turnouts.{turnoutProfile, mostTurnouts};
 ghost use Rattle.host.specs.Frame.{frameAnswer};
 
@@ -48,6 +53,24 @@ pub extern "C" fn kb_write_gates(gates: &[u8], bytes: &mut [u8]) -> EntriesWritt
     ensures { λ _. ⌜ now (bytes .exit) ≡ writeInto gateProfile mostGates (now (gates .entry)) (now (bytes .entry)) ⌝ }
 {
     gate_writing::write_gates(gates, bytes)
+}
+
+// Gates of the old form, moved to the new one.
+#[no_mangle]
+pub extern "C" fn kb_gates_forward(bytes: &[u8], moved: &mut [u8]) -> GatesMoved
+    ensures { λ r. ⌜ r ≡ moveAnswer Old (now (bytes .entry)) (now (moved .entry)) ⌝ }
+    ensures { λ _. ⌜ now (moved .exit) ≡ moveInto Old (now (bytes .entry)) (now (moved .entry)) ⌝ }
+{
+    gate_moving::move_gates(Form::Old, bytes, moved)
+}
+
+// And of the new form, moved to the old one.
+#[no_mangle]
+pub extern "C" fn kb_gates_back(bytes: &[u8], moved: &mut [u8]) -> GatesMoved
+    ensures { λ r. ⌜ r ≡ moveAnswer New (now (bytes .entry)) (now (moved .entry)) ⌝ }
+    ensures { λ _. ⌜ now (moved .exit) ≡ moveInto New (now (bytes .entry)) (now (moved .entry)) ⌝ }
+{
+    gate_moving::move_gates(Form::New, bytes, moved)
 }
 
 #[no_mangle]

@@ -1,8 +1,10 @@
 // Runs the packet layer's public functions on the cases that standard input holds, and prints a line for each.
-// A case: a kind (1 framing, 2 gates read, 3 gates written, 4 turnouts read, 5 turnouts written), the output's room and the input's length (2 bytes
-// each), and the input.
+// A case: a kind (1 framing, 2 gates read, 3 gates written, 4 turnouts read, 5 turnouts written, 6 gates moved forward, 7 gates moved back), the
+// output's room and the input's length (2 bytes each), and the input.
 // A line: kind, answer, what is told besides, and the whole output afterwards, which held AA before. A read tells place, entries and bytes, a write
-// entries and bytes. Framing tells the place and the sub-packet's length, and prints the sub-packet.
+// entries and bytes, a move place, gates and the bytes of both sub-packets. Framing tells the place and the sub-packet's length, and prints the
+// sub-packet.
+use gates::forms::Form;
 use libc::STDIN_FILENO;
 use libc::STDOUT_FILENO;
 use profiles::EntriesRead;
@@ -84,6 +86,17 @@ fn write_turnouts(s: &[u8], out: &mut [u8]) {
     print_written(5, written, out);
 }
 
+fn move_gates(kind: usize, from: Form, s: &[u8], out: &mut [u8]) {
+    let moved = gate_moving::move_gates(from, s, out);
+    print_kind(kind, moved.answer);
+    print_number(moved.place);
+    print_number(moved.gates);
+    print_number(moved.used);
+    print_number(moved.written);
+    print_bytes(out);
+    end_line();
+}
+
 fn fresh_output() -> [u8; MOST_ROOM]
     ensures { λ r. ⌜ 300 ≡ length r ⌝ }
 {
@@ -102,7 +115,9 @@ fn run_kind(kind: u32, s: &[u8], out: &mut [u8]) {
         2 => read_gates(s, out),
         3 => write_gates(s, out),
         4 => read_turnouts(s, out),
-        _ => write_turnouts(s, out),
+        5 => write_turnouts(s, out),
+        6 => move_gates(6, Form::Old, s, out),
+        _ => move_gates(7, Form::New, s, out),
     }
 }
 

@@ -1,0 +1,6 @@
+pub mod DistanceLaws
+pub mod ListLaws
+pub mod MoveLaws
+pub mod StuckLaws
+pub mod BehindLaws
+pub mod Promise
