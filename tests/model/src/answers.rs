@@ -6,6 +6,7 @@ pub const BAD_TYPE: u32 = 2;
 pub const BAD_LENGTH: u32 = 3;
 pub const BAD_FIELD: u32 = 4;
 pub const BAD_PADDING: u32 = 5;
+pub const BAD_DISTANCE: u32 = 6;
 
 // Sessions, modes and frame age.
 pub const BAD_LOCO: u32 = 10;

@@ -10,6 +10,7 @@ pub mod answers;
 pub mod clock;
 pub mod header;
 pub mod modes;
+pub mod old_gates;
 pub mod packets;
 pub mod recording;
 pub mod session;
