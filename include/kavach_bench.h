@@ -16,17 +16,21 @@
  * cut, so that 4,294,967,303 is loco 7, and -1 is 4,294,967,295, which is KB_NONE. Judge such numbers first; gcc shows them
  * by -Wconversion -Wsign-conversion.
  *
- * PLACES. A refused kb_frame, kb_read_gates or kb_read_turnouts also tells in `place` where it broke: the position of the
- * first bit of the field at fault, counted from the start of the sub-packet, whose bit 0 is the top bit of its first byte.
+ * PLACES. A refused kb_frame, kb_read_gates, kb_gates_forward, kb_gates_back or kb_read_turnouts also tells in `place` where it
+ * broke: the position of the first bit of the field at fault, counted from the start of the sub-packet that was read, whose
+ * bit 0 is the top bit of its first byte.
  *   answer 2: 0, the type
  *   answer 3: 4, the length, where it is below 2; 11, the count, where the length is not the one for so many gates, or for
- *             these turnouts
+ *             these turnouts, or where there are too many gates to move forward
  *   answer 4: the first field that is not allowed: gate by gate, and in a gate number, suffix, class, whistling type; turnout
  *             by turnout, and in a turnout the speed
  *   answer 5: the first bit of the padding that is set
+ *   answer 6: the first distance that cannot go back
  *   answer 1, and an accepted call: 0, since no field is at fault
- * FROM A PLACE TO A FIELD, for answer 4. Of gates: the gate is (place - 16) / 35, counted from 0, and what is left,
- * (place - 16) % 35, is 15 for its number, 25 for its suffix, 29 for its class, 33 for its whistling type. Of turnouts: the
+ * FROM A PLACE TO A FIELD, for answers 4 and 6. Of gates: the gate is (place - 16) / 35, counted from 0, and what is left,
+ * (place - 16) % 35, is 0 for its distance, 15 for its number, 25 for its suffix, 29 for its class, 33 for its whistling type.
+ * Of gates in the old form, which kb_gates_forward reads: the gate is (place - 16) / 29, and what is left,
+ * (place - 16) % 29, is 9 for its number, 19 for its suffix, 23 for its class, 27 for its whistling type. Of turnouts: the
  * field is a speed, and the turnout is (place - 13) % 27 / 5, counted from 0, since each one before it takes 5 bits, and 27
  * more where it has distances. So 13 is the first one's, 18 and 45 are the second's, 23, 50 and 77 the third's. The names for
  * these numbers stand below (KB_FIRST_GATE_AT, KB_FIRST_TURNOUT_AT and the others), and examples/host.c says a place in words.
@@ -72,12 +76,13 @@ enum kb_reason {
     /* Sub-packets. */
     KB_SHORT = 1,       /* fewer than 2 bytes, or fewer than the length says; or the output is too small */
     KB_TYPE = 2,        /* type 8 to 15; for gates: a type that is not 3; for turnouts: a type that is not 4 */
-    KB_LENGTH = 3,      /* length below 2; for gates: not the length for the count; for turnouts: not their length, or one of
-                           them runs past the sub-packet; writing: not 9 bytes a gate or 5 a turnout, or over 28 gates or 3
-                           turnouts */
+    KB_LENGTH = 3,      /* length below 2; for gates: not the length for the count in the form that is read; for turnouts: not
+                           their length, or one of them runs past the sub-packet; writing: not 9 bytes a gate or 5 a turnout,
+                           or over 28 gates or 3 turnouts; moving gates forward: over 28 gates */
     KB_FIELD = 4,       /* a gate's or a turnout's field whose value is not allowed or, writing, too large for its width;
                            writing turnouts: a distance that is absent and not zero */
     KB_PADDING = 5,     /* the bits that fill up the last byte are not zero */
+    KB_DISTANCE = 6,    /* moving gates back: a distance that is not a multiple of 10, or is above 5,110 */
     /* Sessions, the mode step and the frame age. */
     KB_LOCO = 10,       /* a loco number that is not 1 to 131,070, of a request too */
     KB_BYTES = 11,      /* a request for other than 1 to 324 bytes */
@@ -112,13 +117,16 @@ typedef struct kb_session {
 #define KB_LEND(session) (session)->bytes, sizeof (session)->bytes
 
 /* The rows of the register, the slots, the flags of a mode step, the bytes of a gate outside its sub-packet, the most gates of
- * a sub-packet, its bytes then, these three of turnouts, and the bytes of the longest record of a recording. */
+ * a sub-packet, its bytes then, these two in the old form, these three of turnouts, and the bytes of the longest record of a
+ * recording. */
 #define KB_ROWS 24
 #define KB_SLOTS 44
 #define KB_FLAGS 91
 #define KB_GATE_SIZE 9
 #define KB_MOST_GATES 28
 #define KB_PACKET_SIZE 125
+#define KB_OLD_MOST_GATES 31
+#define KB_OLD_PACKET_SIZE 115
 #define KB_TURNOUT_SIZE 5
 #define KB_MOST_TURNOUTS 3
 #define KB_TURNOUT_PACKET_SIZE 14
@@ -133,6 +141,13 @@ typedef struct kb_session {
 #define KB_SUFFIX_AT 25
 #define KB_CLASS_AT 29
 #define KB_WHISTLING_TYPE_AT 33
+
+/* In the old form, where the first gate is at the same bit: the bits of a gate, and the bit positions of its judged fields in it. */
+#define KB_OLD_GATE_BITS 29
+#define KB_OLD_NUMBER_AT 9
+#define KB_OLD_SUFFIX_AT 19
+#define KB_OLD_CLASS_AT 23
+#define KB_OLD_WHISTLING_TYPE_AT 27
 
 /* The bit position of the first turnout in a sub-packet; the bits of a turnout that is its speed alone, and of one with
  * distances. */
@@ -192,6 +207,35 @@ typedef struct kb_gates_written {
  * Refused: 3 `gates` not a multiple of 9 bytes, or over 28 gates; 4 a field not allowed (as above) or too large for its width
  * (distance at most 32,767; manning and whistling 0 or 1); 1 `bytes` too small. */
 kb_gates_written kb_write_gates(const uint8_t *gates, size_t gates_len, uint8_t *bytes, size_t bytes_len);
+
+/* THE OLD FORM of a gate sub-packet has a distance of 9 bits in tens of metres, where that of kb_read_gates, the new form, has
+ * 15 bits in metres; all else is the same. It holds up to KB_OLD_MOST_GATES gates, and its length is (16 + 29 * count) / 8
+ * rounded up. The next two calls move a sub-packet from one form to the other. No bit tells the form: with a gate or more, a
+ * sub-packet in the one is refused with 3 where the other is read, since its length is not the one for the count; without
+ * gates both are the same. */
+typedef struct kb_gates_moved {
+    uint32_t answer;
+    size_t place;   /* of a refusal, the first bit of the field at fault (see PLACES above); 0 where accepted */
+    size_t gates;   /* gates moved */
+    size_t used;    /* bytes of the sub-packet that was read */
+    size_t written; /* bytes of the sub-packet that was written */
+} kb_gates_moved;
+
+/* Moves the gate sub-packet in the old form that `bytes` begins with to the start of `moved`, in the new form, and ignores what
+ * follows it. Each distance is multiplied by 10. KB_PACKET_SIZE bytes of `moved` always do. kb_gates_back makes the same
+ * sub-packet of it again.
+ * Changes: the written sub-packet's bytes of `moved`; what lies behind them stays.
+ * Refused: 1 fewer than 2 bytes; 2 type not 3; 3 length below 2; 1 fewer bytes than the length says; 3 length not the one for
+ * the count in the old form, or 29 to 31 gates, which the new form cannot hold; 4 a number not 1 to 1022, a suffix or class
+ * of 7, a whistling type of 3; 5 padding not zero; 1 `moved` too small. */
+kb_gates_moved kb_gates_forward(const uint8_t *bytes, size_t bytes_len, uint8_t *moved, size_t moved_len);
+
+/* Moves the gate sub-packet in the new form that `bytes` begins with to the start of `moved`, in the old form, and ignores what
+ * follows it. Each distance is divided by 10. KB_OLD_PACKET_SIZE bytes of `moved` always do. kb_gates_forward makes the same
+ * sub-packet of it again.
+ * Changes: the written sub-packet's bytes of `moved`; what lies behind them stays.
+ * Refused: as by kb_read_gates up to 5; then 6 a distance that is not a multiple of 10, or is above 5,110; 1 `moved` too small. */
+kb_gates_moved kb_gates_back(const uint8_t *bytes, size_t bytes_len, uint8_t *moved, size_t moved_len);
 
 typedef struct kb_turnouts_read {
     uint32_t answer;

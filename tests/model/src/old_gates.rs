@@ -19,12 +19,12 @@ pub struct GatesMoved {
     pub written: usize,
 }
 
-/// Moves the first sub-packet of `input`, which is in the older form, to the front of `output`, in the new form.
+/// Moves the first sub-packet of `input`, which is in the old form, to the front of `output`, in the new form.
 pub fn forward(input: &[u8], output: &mut [u8]) -> GatesMoved {
     told(moved(&OLD, &NEW, input, output))
 }
 
-/// Moves the first sub-packet of `input`, which is in the new form, to the front of `output`, in the older form.
+/// Moves the first sub-packet of `input`, which is in the new form, to the front of `output`, in the old form.
 pub fn back(input: &[u8], output: &mut [u8]) -> GatesMoved {
     told(moved(&NEW, &OLD, input, output))
 }

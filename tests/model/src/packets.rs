@@ -1,4 +1,4 @@
-//! Sub-packet framing and gate sub-packets (document 002). Nothing here knows of trains. The older form of gate sub-packets is that of
+//! Sub-packet framing and gate sub-packets (document 002). Nothing here knows of trains. The old form of gate sub-packets is that of
 //! `old_gates`, by the same rules.
 
 use crate::answers::{BAD_FIELD, BAD_LENGTH, BAD_PADDING, BAD_TYPE, SHORT};
@@ -81,7 +81,7 @@ impl Form {
     pub fn gates_of<'a>(&self, input: &'a [u8]) -> Result<(&'a [u8], usize), Refusal> {
         let packet = framed(input, |kind| kind == GATE_TYPE)?;
         let gates = bits(packet, COUNT, COUNT_BITS) as usize;
-        // What is read in the older form is to go into the new one, so that it may have no more gates either.
+        // What is read in the old form is to go into the new one, so that it may have no more gates either.
         if gates > MOST_GATES || packet.len() != self.packet_length(gates) {
             return Err(refused(BAD_LENGTH, COUNT));
         }

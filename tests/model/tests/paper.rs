@@ -1,7 +1,7 @@
 //! Document 01's examples and the rules beside them, run on the model.
 
 use bench_model::session::{Answer, Pair, Session, NONE};
-use bench_model::{clock, modes, packets, recording, sos, turnouts};
+use bench_model::{clock, modes, old_gates, packets, recording, sos, turnouts};
 
 fn accepted(numbers: [u32; 3]) -> Answer {
     Answer { answer: 0, numbers }
@@ -311,6 +311,327 @@ fn every_place_is_listed() {
     }
     assert_eq!(packets::places(), places);
     assert_eq!(places.len(), 3 + 4 * 28 + 102);
+}
+
+/// 0011 0000110 00001, 001000001 0000001100 001 0 010 1 00, 000: the same gate in the old form, with 65 for 650 m. Worked out by hand.
+const ONE_OLD_GATE: [u8; 6] = [0x30, 0xC1, 0x20, 0x81, 0x84, 0xA0];
+
+/// A way to move gates: the bits of a distance in the form that is read, and in that which is written.
+#[derive(Clone, Copy, PartialEq, Debug)]
+struct Way {
+    from: usize,
+    to: usize,
+}
+
+const FORWARD: Way = Way { from: 9, to: 15 };
+const BACK: Way = Way { from: 15, to: 9 };
+
+impl Way {
+    fn go(self, input: &[u8], output: &mut [u8]) -> old_gates::GatesMoved {
+        if self == FORWARD {
+            old_gates::forward(input, output)
+        } else {
+            old_gates::back(input, output)
+        }
+    }
+
+    /// The answer and place of a move into so much room, which tells nothing else and leaves the room as it was where it is refused.
+    fn told_into(self, room: usize, packet: &[u8]) -> (u32, u32) {
+        let mut output = vec![7; room];
+        let moved = self.go(packet, &mut output);
+        if moved.answer != 0 {
+            assert_eq!((moved.gates, moved.used, moved.written, output), (0, 0, 0, vec![7; room]));
+        }
+        (moved.answer, moved.place)
+    }
+
+    fn told(self, packet: &[u8]) -> (u32, u32) {
+        self.told_into(125, packet)
+    }
+
+    /// What an accepted move writes, the room being larger. Bytes behind the sub-packet that is read are ignored.
+    fn written(self, packet: &[u8]) -> Vec<u8> {
+        let mut output = [7; 130];
+        let moved = self.go(&[packet, &[0xFF; 3]].concat(), &mut output);
+        assert_eq!((moved.answer, moved.place, moved.used), (0, 0, packet.len()));
+        assert_eq!((moved.gates, moved.written), (count_of(packet), length(self.to, count_of(packet))));
+        assert!(output[moved.written..].iter().all(|&byte| byte == 7));
+        output[..moved.written].to_vec()
+    }
+}
+
+/// The first bit of a gate in the form whose distances have so many bits.
+fn start(distance: usize, gate: usize) -> usize {
+    16 + (distance + 20) * gate
+}
+
+fn length(distance: usize, gates: usize) -> usize {
+    start(distance, gates).div_ceil(8)
+}
+
+fn count_of(packet: &[u8]) -> usize {
+    usize::from(packet[1] % 32)
+}
+
+/// A sub-packet of gates with these distances; all else in them is as in the paper's gate.
+fn at_distances(bits: usize, distances: &[u32]) -> Vec<u8> {
+    let length = length(bits, distances.len());
+    let header = with(&vec![0; length], 0, 16, (3 << 12 | length << 5 | distances.len()) as u32);
+    distances.iter().enumerate().fold(header, |packet, (gate, &distance)| {
+        let at = start(bits, gate);
+        with(&with(&packet, at, bits, distance), at + bits, 20, 0b0000001100_001_0_010_1_00)
+    })
+}
+
+/// So many gates at 650 m, in the form that a way reads.
+fn to_move(way: Way, gates: usize) -> Vec<u8> {
+    at_distances(way.from, &vec![if way == FORWARD { 65 } else { 650 }; gates])
+}
+
+/// The judged fields of a gate, as they lie in a form.
+fn judged(distance: usize) -> [(usize, usize, &'static [u32]); 4] {
+    JUDGED.map(|(at, width, wrong)| (at - 15 + distance, width, wrong))
+}
+
+#[test]
+fn gates_moved() {
+    assert_eq!(to_move(FORWARD, 1), ONE_OLD_GATE);
+    assert_eq!(to_move(BACK, 1), ONE_GATE);
+    assert_eq!(FORWARD.written(&ONE_OLD_GATE), ONE_GATE);
+    assert_eq!(BACK.written(&ONE_GATE), ONE_OLD_GATE);
+    for way in [FORWARD, BACK] {
+        assert_eq!(way.written(&[0x30, 0x40]), [0x30, 0x40]);
+        for gates in 0..=28 {
+            let packet = to_move(way, gates);
+            assert_eq!(way.written(&packet), at_distances(way.to, &vec![if way == BACK { 65 } else { 650 }; gates]));
+            assert_eq!(way.told_into(length(way.to, gates), &packet), (0, 0));
+            assert_eq!(way.told_into(length(way.to, gates) - 1, &packet), (1, 0));
+            assert_eq!(way.told_into(0, &packet), (1, 0));
+        }
+    }
+    assert_eq!((length(9, 28), length(9, 31), length(15, 28)), (104, 115, 125));
+}
+
+#[test]
+fn each_ground_of_a_move_has_its_place_in_the_shortest_input() {
+    for (way, one) in [(FORWARD, &ONE_OLD_GATE[..]), (BACK, &ONE_GATE)] {
+        assert_eq!(way.told(&[]), (1, 0));
+        assert_eq!(way.told(&[0x30]), (1, 0));
+        assert_eq!(way.told(&[0x30, 0x60]), (1, 0));
+        assert_eq!(way.told(&one[..one.len() - 1]), (1, 0));
+        for kind in (0..16).filter(|&kind| kind != 3) {
+            assert_eq!(way.told(&[kind << 4, 0x40]), (2, 0));
+        }
+        assert_eq!(way.told(&[0x30, 0x00]), (3, 4));
+        assert_eq!(way.told(&[0x30, 0x3F]), (3, 4));
+        assert_eq!(way.told(&[0x30, 0x41]), (3, 11));
+        assert_eq!(way.told(&[0x30, 0x60, 0]), (3, 11));
+        assert_eq!(way.told(&with(one, 16 + way.from, 10, 0)), (4, 16 + way.from as u32));
+        let last = 8 * one.len() - 1;
+        assert_eq!(way.told(&with(one, last, 1, 1)), (5, last as u32));
+    }
+    assert_eq!(BACK.told(&with(&ONE_GATE, 16, 15, 651)), (6, 16));
+}
+
+#[test]
+fn the_old_form_may_have_31_gates_but_28_go_forward() {
+    for gates in 1..=31 {
+        let old = to_move(FORWARD, gates);
+        assert_eq!(FORWARD.told(&old), if gates > 28 { (3, 11) } else { (0, 0) });
+        // With the other 3: before a field, the padding and the room.
+        let wrong =
+            with(&with(&old, 16 + 9, 10, 0), start(9, gates) - 2, 8 * old.len() + 2 - start(9, gates), u32::MAX);
+        for room in [0, 140] {
+            assert_eq!(FORWARD.told_into(room, &wrong), if gates > 28 { (3, 11) } else { (4, 25) });
+        }
+        // But after the bytes that are missing.
+        assert_eq!(FORWARD.told(&old[..old.len() - 1]), (1, 0));
+    }
+}
+
+#[test]
+fn a_count_needs_its_length_in_the_form_that_is_read() {
+    for way in [FORWARD, BACK] {
+        for gates in 0..=31 {
+            let zeros = vec![0; 127];
+            for length in 2..=127 {
+                let packet = with(&zeros, 0, 16, (3 << 12 | length << 5 | gates) as u32);
+                let sound = gates <= 28 && length == self::length(way.from, gates);
+                // Gates of zeros have a number of zero.
+                let number = (4, 16 + way.from as u32);
+                assert_eq!(way.told(&packet), if !sound { (3, 11) } else { [(0, 0), number][gates.min(1)] });
+            }
+        }
+        for gates in 1..=28 {
+            let other = Way { from: way.to, to: way.from };
+            assert_eq!(way.told(&[&to_move(other, gates)[..], &[0; 30]].concat()), (3, 11));
+        }
+    }
+}
+
+#[test]
+fn a_wrong_field_of_a_gate_to_move_is_told_by_its_first_bit() {
+    for way in [FORWARD, BACK] {
+        for (gates, gate) in [(1, 0), (2, 0), (28, 0), (2, 1), (28, 1), (28, 27)] {
+            let packet = to_move(way, gates);
+            for (at, width, wrong) in judged(way.from) {
+                let place = start(way.from, gate) + at;
+                for value in 0..1 << width {
+                    let told = if wrong.contains(&value) { (4, place as u32) } else { (0, 0) };
+                    assert_eq!(way.told(&with(&packet, place, width, value)), told);
+                }
+            }
+            // All values are allowed in manning and whistling, and what is allowed is moved.
+            for at in [13, 17] {
+                let (here, there) = (start(way.from, gate) + way.from + at, start(way.to, gate) + way.to + at);
+                for value in [0, 1] {
+                    let expected = with(&way.written(&packet), there, 1, value);
+                    assert_eq!(way.written(&with(&packet, here, 1, value)), expected);
+                }
+            }
+        }
+    }
+}
+
+#[test]
+fn of_several_wrong_fields_of_gates_to_move_the_first_is_told() {
+    for way in [FORWARD, BACK] {
+        let all = (0..28).flat_map(|gate| judged(way.from).map(|(at, width, wrong)| (gate, at, width, wrong[0])));
+        let last = all.rev().fold(to_move(way, 28), |packet, (gate, at, width, wrong)| {
+            let place = start(way.from, gate) + at;
+            let more = with(&packet, place, width, wrong);
+            assert_eq!(way.told(&more), (4, place as u32));
+            more
+        });
+        assert_eq!(way.told(&last), (4, 16 + way.from as u32));
+    }
+}
+
+#[test]
+fn the_first_bit_set_of_the_padding_of_gates_to_move_is_told() {
+    for way in [FORWARD, BACK] {
+        for gates in 0..=28 {
+            let packet = to_move(way, gates);
+            let padding = start(way.from, gates)..8 * packet.len();
+            assert_eq!(padding.len(), if way == FORWARD { 3 * gates % 8 } else { 5 * gates % 8 });
+            for bit in padding.clone() {
+                for later in bit..padding.end {
+                    let two = with(&with(&packet, bit, 1, 1), later, 1, 1);
+                    assert_eq!((way.told(&two), way.told_into(0, &two)), ((5, bit as u32), (5, bit as u32)));
+                }
+            }
+        }
+    }
+}
+
+#[test]
+fn every_old_distance_goes_forward_and_every_tenth_metre_up_to_5110_back() {
+    for tens in 0..512 {
+        assert_eq!(FORWARD.written(&at_distances(9, &[tens])), at_distances(15, &[10 * tens]));
+    }
+    for metres in 0..32_768 {
+        let packet = at_distances(15, &[metres]);
+        if metres % 10 == 0 && metres <= 5_110 {
+            assert_eq!(BACK.written(&packet), at_distances(9, &[metres / 10]));
+        } else {
+            assert_eq!(BACK.told(&packet), (6, 16));
+        }
+    }
+}
+
+#[test]
+fn of_several_distances_that_cannot_go_back_the_first_is_told() {
+    for wrong in [1, 9, 5_101, 5_109, 5_111, 5_115, 5_120, 10_230, 32_760, 32_767] {
+        let mut distances = [5_110; 28];
+        for gate in (0..28).rev() {
+            distances[gate] = wrong;
+            let place = start(15, gate) as u32;
+            assert_eq!(BACK.told(&at_distances(15, &distances)), (6, place));
+            assert_eq!(BACK.told_into(0, &at_distances(15, &distances)), (6, place));
+            assert_eq!(BACK.told(&at_distances(15, &distances[..=gate])), (6, place));
+            // A field of any gate and the padding are judged before.
+            for other in [0, gate, 27] {
+                let field = start(15, other) + 33;
+                assert_eq!(BACK.told(&with(&at_distances(15, &distances), field, 2, 3)), (4, field as u32));
+            }
+            let last = 8 * length(15, 28) - 1;
+            assert_eq!(BACK.told(&with(&at_distances(15, &distances), last, 1, 1)), (5, last as u32));
+        }
+    }
+}
+
+/// From wholly wrong to sound: each step mends what was told.
+#[test]
+fn the_place_in_gates_to_move_is_that_of_the_ground_judged_first() {
+    for way in [FORWARD, BACK] {
+        let told = |packet: &[u8]| way.told_into(length(way.to, 2) - 1, packet);
+        let (sound, end) = (to_move(way, 2), start(way.from, 2));
+        let wrong = with(&sound, start(way.from, 1), way.from, u32::MAX);
+        let wrong = judged(way.from)
+            .iter()
+            .fold(wrong, |packet, &(at, width, values)| with(&packet, start(way.from, 1) + at, width, values[0]));
+        let wrong = with(&with(&wrong, end, 1, 1), 11, 5, 30);
+        assert_eq!(told(&with(&wrong, 0, 11, 8 << 7 | 1)[..1]), (1, 0));
+        assert_eq!(told(&with(&wrong, 0, 11, 8 << 7 | 1)), (2, 0));
+        assert_eq!(told(&with(&wrong, 4, 7, 1)), (3, 4));
+        assert_eq!(told(&wrong[..wrong.len() - 1]), (1, 0));
+        assert_eq!(told(&wrong), (3, 11));
+        let wrong = judged(way.from).iter().fold(with(&wrong, 11, 5, 2), |packet, &(at, width, _)| {
+            let place = start(way.from, 1) + at;
+            assert_eq!(told(&packet), (4, place as u32));
+            with(&packet, place, width, 1)
+        });
+        assert_eq!(told(&wrong), (5, end as u32));
+        let wrong = with(&wrong, end, 1, 0);
+        // All ones go forward: 5,110 m.
+        assert_eq!(told(&wrong), if way == BACK { (6, 51) } else { (1, 0) });
+        let mended = with(&wrong, start(way.from, 1), way.from, 10);
+        assert_eq!((told(&mended), way.told(&mended)), ((1, 0), (0, 0)));
+    }
+}
+
+#[test]
+fn gates_moved_there_and_back() {
+    let mut chance = Chance(4);
+    let mut accepted = [0; 29];
+    for round in 0..29 * 300usize {
+        let count = round % 29;
+        let gates = |chance: &mut Chance| -> Vec<u8> { (0..count).flat_map(|_| chance.gate()).collect() };
+        let mut packet = vec![0; length(15, count)];
+        packets::write_gates(&gates(&mut chance), &mut packet);
+        // All but the distances is random; these can go back, in every fourth round but for one.
+        for gate in 0..count {
+            packet = with(&packet, start(15, gate), 15, 10 * chance.below(512));
+        }
+        let odd = (count > 0 && round % 4 == 0).then(|| chance.below(count as u32) as usize);
+        if let Some(gate) = odd {
+            let distance = [5_120 + 10 * chance.below(2_765), 1 + 10 * chance.below(511) + chance.below(9)];
+            packet = with(&packet, start(15, gate), 15, distance[round / 4 % 2]);
+            assert_eq!(BACK.told(&packet), (6, start(15, gate) as u32));
+            continue;
+        }
+        accepted[count] += 1;
+        let old = BACK.written(&packet);
+        assert_eq!(FORWARD.written(&old), packet);
+        assert_eq!(BACK.written(&FORWARD.written(&old)), old);
+    }
+    assert!(accepted.iter().all(|&times| times > 100), "{accepted:?}");
+}
+
+#[test]
+fn every_place_of_a_move_is_listed() {
+    let places = |distance: usize| {
+        let mut places = vec![(2, 0), (3, 4), (3, 11)];
+        for gate in 0..28 {
+            places.extend(judged(distance).map(|(at, ..)| (4, (start(distance, gate) + at) as u32)));
+            places.extend((start(distance, gate + 1)..8 * length(distance, gate + 1)).map(|bit| (5, bit as u32)));
+        }
+        places
+    };
+    assert_eq!(old_gates::forward_places(), places(9));
+    assert_eq!(places(9).len(), 3 + 4 * 28 + 98);
+    let distances = (0..28).map(|gate| (6, start(15, gate) as u32));
+    assert_eq!(old_gates::back_places(), places(15).into_iter().chain(distances).collect::<Vec<_>>());
 }
 
 // Worked out by hand: type 4, length, count, then of each turnout the speed 5 bits and, for 30 km/h, 1,200 m in 15 and 400 m in 12.
