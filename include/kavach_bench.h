@@ -142,7 +142,8 @@ typedef struct kb_session {
 #define KB_CLASS_AT 29
 #define KB_WHISTLING_TYPE_AT 33
 
-/* In the old form, where the first gate is at the same bit: the bits of a gate, and the bit positions of its judged fields in it. */
+/* The same of a gate in the old form: its bits, and the bit positions of its judged fields in it. The first starts where it does
+ * in the new form. */
 #define KB_OLD_GATE_BITS 29
 #define KB_OLD_NUMBER_AT 9
 #define KB_OLD_SUFFIX_AT 19
@@ -234,7 +235,9 @@ kb_gates_moved kb_gates_forward(const uint8_t *bytes, size_t bytes_len, uint8_t 
  * follows it. Each distance is divided by 10. KB_OLD_PACKET_SIZE bytes of `moved` always do. kb_gates_forward makes the same
  * sub-packet of it again.
  * Changes: the written sub-packet's bytes of `moved`; what lies behind them stays.
- * Refused: as by kb_read_gates up to 5; then 6 a distance that is not a multiple of 10, or is above 5,110; 1 `moved` too small. */
+ * Refused: 1 fewer than 2 bytes; 2 type not 3; 3 length below 2; 1 fewer bytes than the length says; 3 length not the one for
+ * the count in the new form; 4 a field not allowed (as above); 5 padding not zero; 6 a distance that is not a multiple of 10, or
+ * is above 5,110; 1 `moved` too small. */
 kb_gates_moved kb_gates_back(const uint8_t *bytes, size_t bytes_len, uint8_t *moved, size_t moved_len);
 
 typedef struct kb_turnouts_read {

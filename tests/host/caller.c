@@ -17,7 +17,7 @@
 enum kind {
     START, REQUEST, RELEASE, FLAGS, POSITION, AUTHORITY, DANGER, SOS, CLEAR, STEP_BACK,
     COUNTER, KEPT, IS_TAKEN, END, TRAIN,
-    FRAME, READ_GATES, WRITE_GATES, READ_TURNOUTS, WRITE_TURNOUTS, FRAME_AGE, NEXT_MODE, SESSION_SIZE,
+    FRAME, READ_GATES, WRITE_GATES, GATES_FORWARD, GATES_BACK, READ_TURNOUTS, WRITE_TURNOUTS, FRAME_AGE, NEXT_MODE, SESSION_SIZE,
     RUN_RECORD, LONGEST_RECORD,
     FILL = 30, /* the session's bytes are those given */
     POKE = 31, /* byte n[0] of the session is n[1] */
@@ -103,6 +103,12 @@ static void put_gates_read(kb_gates_read a)
 static void put_gates_written(kb_gates_written a)
 {
     put_sizes(a.answer, a.gates, a.bytes, 0);
+}
+
+static void put_gates_moved(kb_gates_moved a)
+{
+    put_sizes(a.answer, a.place, a.gates, a.used);
+    reply.words[4] = word(a.written);
 }
 
 static void put_turnouts_read(kb_turnouts_read a)
@@ -207,6 +213,8 @@ static void run(const struct call *c, const uint8_t *given, uint8_t *output)
     case FRAME: put_frame(kb_frame(given, c->given)); break;
     case READ_GATES: put_gates_read(kb_read_gates(given, c->given, output, c->room)); break;
     case WRITE_GATES: put_gates_written(kb_write_gates(given, c->given, output, c->room)); break;
+    case GATES_FORWARD: put_gates_moved(kb_gates_forward(given, c->given, output, c->room)); break;
+    case GATES_BACK: put_gates_moved(kb_gates_back(given, c->given, output, c->room)); break;
     case READ_TURNOUTS: put_turnouts_read(kb_read_turnouts(given, c->given, output, c->room)); break;
     case WRITE_TURNOUTS: put_turnouts_written(kb_write_turnouts(given, c->given, output, c->room)); break;
     case FRAME_AGE: put_age(kb_frame_age(c->n[0], c->n[1])); break;

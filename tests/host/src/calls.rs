@@ -108,7 +108,7 @@ impl Calls {
             return self.begin();
         }
         self.left -= 1;
-        if self.random.chance(35) {
+        if self.random.chance(50) {
             return packets::call(&mut self.random);
         }
         if self.plan == Plan::Damaged && self.random.chance(3) {

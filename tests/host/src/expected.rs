@@ -4,7 +4,7 @@ use crate::wire::{Call, Kind, Reply, PATTERN, SESSION, WORDS};
 use bench_model::recording::{self, run_first, Run};
 use bench_model::session::{Answer, Pair, Session, NONE};
 use bench_model::train::Train;
-use bench_model::{clock, modes, packets, turnouts};
+use bench_model::{clock, modes, old_gates, packets, turnouts};
 
 const WRONG_LENGTH: u32 = 34;
 const MOST_RECORDS: u32 = u32::MAX;
@@ -146,8 +146,23 @@ impl Bench {
 }
 
 fn without_session(call: &Call) -> Expected {
-    let mut output = vec![PATTERN; call.room as usize];
     let [a, b, ..] = call.n;
+    match call.kind {
+        Kind::FrameAge => {
+            let age = clock::frame_age(a, b);
+            let conditions = [age.fresh, age.stale, age.recent].map(u32::from);
+            Expected::words(&[age.answer, age.age, conditions[0], conditions[1], conditions[2]])
+        }
+        Kind::NextMode => match modes::step(a, &call.given) {
+            Ok(step) => Expected::words(&[0, step.mode, step.priority, step.tie]),
+            Err(answer) => Expected::words(&[answer]),
+        },
+        _ => on_packet(call),
+    }
+}
+
+fn on_packet(call: &Call) -> Expected {
+    let mut output = vec![PATTERN; call.room as usize];
     match call.kind {
         Kind::Frame => {
             let packets::Frame { answer, place, packet } = packets::frame(&call.given);
@@ -161,6 +176,8 @@ fn without_session(call: &Call) -> Expected {
             let written = packets::write_gates(&call.given, &mut output);
             Expected::told(&[written.answer, written.gates as u32, written.bytes as u32], output)
         }
+        Kind::GatesForward => moved(old_gates::forward(&call.given, &mut output), output),
+        Kind::GatesBack => moved(old_gates::back(&call.given, &mut output), output),
         Kind::ReadTurnouts => {
             let read = turnouts::read_turnouts(&call.given, &mut output);
             Expected::told(&[read.answer, read.place, read.turnouts as u32, read.bytes as u32], output)
@@ -169,17 +186,13 @@ fn without_session(call: &Call) -> Expected {
             let written = turnouts::write_turnouts(&call.given, &mut output);
             Expected::told(&[written.answer, written.turnouts as u32, written.bytes as u32], output)
         }
-        Kind::FrameAge => {
-            let age = clock::frame_age(a, b);
-            let conditions = [age.fresh, age.stale, age.recent].map(u32::from);
-            Expected::words(&[age.answer, age.age, conditions[0], conditions[1], conditions[2]])
-        }
-        Kind::NextMode => match modes::step(a, &call.given) {
-            Ok(step) => Expected::words(&[0, step.mode, step.priority, step.tie]),
-            Err(answer) => Expected::words(&[answer]),
-        },
         other => unreachable!("{other:?} takes a session"),
     }
+}
+
+fn moved(told: old_gates::GatesMoved, output: Vec<u8>) -> Expected {
+    let old_gates::GatesMoved { answer, place, gates, used, written } = told;
+    Expected::told(&[answer, place, gates as u32, used as u32, written as u32], output)
 }
 
 /// The row of a train as the header tells it; where there is none, the numbers of an empty row.

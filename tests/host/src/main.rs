@@ -12,6 +12,7 @@ mod calls;
 mod cases;
 mod expected;
 mod gates;
+mod moves;
 mod packets;
 mod random;
 mod records;
@@ -20,6 +21,7 @@ mod wire;
 
 use bench_model::header::defined;
 use bench_model::modes::FLAGS;
+use bench_model::old_gates;
 use bench_model::packets::{self as model_gates, COUNT, LENGTH};
 use bench_model::recording::LONGEST;
 use bench_model::session::{ROWS, SLOTS};
@@ -27,7 +29,7 @@ use bench_model::turnouts as model_turnouts;
 use calls::Calls;
 use cases::Case;
 use expected::Expected;
-use gates::JUDGED;
+use gates::{DISTANCE, JUDGED, OLD_DISTANCE};
 use std::collections::{BTreeMap, BTreeSet};
 use std::io::{BufReader, Read, Write};
 use std::process::{ChildStdin, ChildStdout, Command, ExitCode, Stdio};
@@ -40,9 +42,10 @@ const WATCHED: usize = 10;
 
 type Batch = Vec<(Call, Expected)>;
 
-/// Every answer number that a call can give. A run of a million calls or more must have seen each, must have called each function and
-/// must have met each place that a refused read of gates, and one of turnouts, can tell.
-const ANSWERS: [u32; 22] = [0, 1, 2, 3, 4, 5, 10, 11, 12, 13, 14, 15, 16, 17, 18, 19, 20, 21, 22, 23, 24, 34];
+/// Every answer number that a call can give. A run of a million calls or more must have seen each, must have called each function and must
+/// have met each place that a refused read of gates, one of turnouts, and a refused move of gates either way can tell, and each number of
+/// gates or turnouts that they can accept.
+const ANSWERS: [u32; 23] = [0, 1, 2, 3, 4, 5, 6, 10, 11, 12, 13, 14, 15, 16, 17, 18, 19, 20, 21, 22, 23, 24, 34];
 
 /// The numbers that the header defines besides the session's size are the model's, or those by which packets are damaged.
 const _: () = assert!(
@@ -52,6 +55,8 @@ const _: () = assert!(
         && defined("#define KB_GATE_SIZE ") == model_gates::GATE_BYTES as u32
         && defined("#define KB_MOST_GATES ") == gates::MOST_GATES
         && defined("#define KB_PACKET_SIZE ") == gates::PACKET as u32
+        && defined("#define KB_OLD_MOST_GATES ") == gates::OLD_MOST_GATES
+        && defined("#define KB_OLD_PACKET_SIZE ") == gates::OLD_PACKET as u32
         && defined("#define KB_TURNOUT_SIZE ") == model_turnouts::TURNOUT_BYTES as u32
         && defined("#define KB_MOST_TURNOUTS ") == model_turnouts::MOST_TURNOUTS as u32
         && defined("#define KB_TURNOUT_PACKET_SIZE ") == turnouts::PACKET as u32
@@ -60,10 +65,15 @@ const _: () = assert!(
         && defined("#define KB_COUNT_AT ") == COUNT as u32
         && defined("#define KB_FIRST_GATE_AT ") == model_gates::HEADER_BITS as u32
         && defined("#define KB_GATE_BITS ") == model_gates::GATE_BITS as u32
-        && defined("#define KB_NUMBER_AT ") == JUDGED[0].0 as u32
-        && defined("#define KB_SUFFIX_AT ") == JUDGED[1].0 as u32
-        && defined("#define KB_CLASS_AT ") == JUDGED[2].0 as u32
-        && defined("#define KB_WHISTLING_TYPE_AT ") == JUDGED[3].0 as u32
+        && defined("#define KB_NUMBER_AT ") == (DISTANCE + JUDGED[0].0) as u32
+        && defined("#define KB_SUFFIX_AT ") == (DISTANCE + JUDGED[1].0) as u32
+        && defined("#define KB_CLASS_AT ") == (DISTANCE + JUDGED[2].0) as u32
+        && defined("#define KB_WHISTLING_TYPE_AT ") == (DISTANCE + JUDGED[3].0) as u32
+        && defined("#define KB_OLD_GATE_BITS ") == old_gates::GATE_BITS as u32
+        && defined("#define KB_OLD_NUMBER_AT ") == (OLD_DISTANCE + JUDGED[0].0) as u32
+        && defined("#define KB_OLD_SUFFIX_AT ") == (OLD_DISTANCE + JUDGED[1].0) as u32
+        && defined("#define KB_OLD_CLASS_AT ") == (OLD_DISTANCE + JUDGED[2].0) as u32
+        && defined("#define KB_OLD_WHISTLING_TYPE_AT ") == (OLD_DISTANCE + JUDGED[3].0) as u32
         && defined("#define KB_FIRST_TURNOUT_AT ") == model_turnouts::HEADER_BITS as u32
         && defined("#define KB_SPEED_BITS ") == model_turnouts::SPEED_BITS as u32
         && defined("#define KB_TURNOUT_BITS ") == model_turnouts::TURNOUT_BITS as u32
@@ -89,28 +99,38 @@ fn send(seed: u64, count: u64, mut caller: ChildStdin, compared: SyncSender<Batc
     }
 }
 
-/// What the reads of one kind have shown.
+/// What the reads of one kind have shown. A move of gates reads them, too.
 #[derive(Default)]
 struct Reads {
+    calls: u64,
     /// Those of sub-packets that were sound and then changed.
     damaged: u64,
     /// Those that were refused with a place that is not 0.
     placed: u64,
     /// The answers, each with its place.
     places: BTreeSet<(u32, u32)>,
+    /// The numbers of gates or turnouts of those that were accepted.
+    counts: BTreeSet<u32>,
 }
 
 impl Reads {
-    fn note(&mut self, call: &Call, answer: u32, place: u32) {
+    fn note(&mut self, call: &Call, reply: &Reply) {
+        let [answer, place, count, ..] = reply.words;
+        self.calls += 1;
         self.damaged += u64::from(call.damaged);
         self.placed += u64::from(place != 0);
         self.places.insert((answer, place));
+        if answer == 0 {
+            self.counts.insert(count);
+        }
     }
 
-    /// The first of these places that was not met.
-    fn missing(&self, what: &str, places: Vec<(u32, u32)>) -> Option<String> {
+    /// The first of these places, or of the numbers up to `most`, that was not met.
+    fn missing(&self, what: &str, places: Vec<(u32, u32)>, most: u32) -> Option<String> {
         let place = places.into_iter().find(|place| !self.places.contains(place));
-        place.map(|(answer, bit)| format!("no read of {what} was answered {answer} with place {bit}"))
+        let place = place.map(|(answer, bit)| format!("no {what} was answered {answer} with place {bit}"));
+        let count = (0..=most).find(|count| !self.counts.contains(count));
+        place.or(count.map(|count| format!("no {what} was accepted of a sub-packet that has {count}")))
     }
 }
 
@@ -124,6 +144,8 @@ struct Seen {
     over_midnight: u64,
     gates: Reads,
     turnouts: Reads,
+    forward: Reads,
+    back: Reads,
     /// Framings that were refused with a place that is not 0.
     placed_frames: u64,
     answers: BTreeMap<u32, u64>,
@@ -136,10 +158,13 @@ impl Seen {
         let kind = (0..=Kind::LongestRecord as u32).find(|kind| !self.kinds.contains(kind));
         let answer = answer.map(|answer| format!("no call was answered {answer}"));
         let kind = kind.map(|kind| format!("no call was of kind {kind} (wire.rs names the kinds)"));
-        let gates = self.gates.missing("gates", model_gates::places());
-        let turnouts = self.turnouts.missing("turnouts", model_turnouts::places());
+        let gates = self.gates.missing("read of gates", model_gates::places(), gates::MOST_GATES);
+        let forward = self.forward.missing("move of gates forward", old_gates::forward_places(), gates::MOST_GATES);
+        let back = self.back.missing("move of gates back", old_gates::back_places(), gates::MOST_GATES);
+        let most_turnouts = model_turnouts::MOST_TURNOUTS as u32;
+        let turnouts = self.turnouts.missing("read of turnouts", model_turnouts::places(), most_turnouts);
         let frame = (self.placed_frames == 0).then(|| "no framing was refused with a place that is not 0".into());
-        answer.or(kind).or(gates).or(turnouts).or(frame)
+        answer.or(kind).or(gates).or(forward).or(back).or(turnouts).or(frame)
     }
 
     fn note(&mut self, call: &Call, expected: &Expected, reply: &Reply) {
@@ -160,8 +185,10 @@ impl Seen {
         match call.kind {
             Kind::FrameAge => self.over_midnight += u64::from(call.n[0] < call.n[1] && answer == 0),
             Kind::Frame => self.placed_frames += u64::from(place != 0),
-            Kind::ReadGates => self.gates.note(call, answer, place),
-            Kind::ReadTurnouts => self.turnouts.note(call, answer, place),
+            Kind::ReadGates => self.gates.note(call, reply),
+            Kind::GatesForward => self.forward.note(call, reply),
+            Kind::GatesBack => self.back.note(call, reply),
+            Kind::ReadTurnouts => self.turnouts.note(call, reply),
             _ => {}
         }
     }
@@ -275,11 +302,26 @@ fn run_random(seed: u64, count: u64, command: &[String]) -> Result<(), String> {
         seen.gates.placed, seen.turnouts.placed, seen.placed_frames
     );
     println!("host: {} gate reads and {} turnout reads of damaged packets", seen.gates.damaged, seen.turnouts.damaged);
+    print_moves(&seen.forward, &seen.back);
     println!(
         "host: {} calls tried with seed {seed}, {} of them on foreign sessions: no difference",
         seen.calls, seen.foreign
     );
     Ok(())
+}
+
+fn print_moves(forward: &Reads, back: &Reads) {
+    println!(
+        "host: {} moves of gates, {} forward and {} back, of which {} and {} are refused with a place that is not 0 and {} and {} are of \
+         damaged packets",
+        forward.calls + back.calls,
+        forward.calls,
+        back.calls,
+        forward.placed,
+        back.placed,
+        forward.damaged,
+        back.damaged
+    );
 }
 
 fn main() -> ExitCode {

@@ -3,21 +3,25 @@
 use crate::calls::flags_for;
 use crate::random::Random;
 use crate::wire::{Call, Kind};
-use crate::{gates, turnouts};
+use crate::{gates, moves, turnouts};
 use bench_model::packets::{COUNT, GATE_BYTES, LENGTH};
 use bench_model::turnouts::{MOST_TURNOUTS, TURNOUT_BYTES};
 
+/// How many of a hundred sub-packets that are framed or read are damaged.
+const DAMAGED: u32 = 80;
+
 pub fn call(random: &mut Random) -> Call {
-    match random.below(13) {
+    match random.below(23) {
         0 => {
             let sound = if random.chance(70) { gates::sound(random) } else { turnouts::sound(random) };
-            Call::new(Kind::Frame, &[]).with(sound.altered(random).0)
+            Call::new(Kind::Frame, &[]).with(sound.altered(random, DAMAGED).0)
         }
         1..=4 => read(random, Kind::ReadGates, gates::sound, gates::MOST_GATES as usize * GATE_BYTES),
         5 => write(random, Kind::WriteGates, gates::list, gates::PACKET),
         6..=9 => read(random, Kind::ReadTurnouts, turnouts::sound, MOST_TURNOUTS * TURNOUT_BYTES),
         10 => write(random, Kind::WriteTurnouts, turnouts::list, turnouts::PACKET),
         11 => frame_age(random),
+        12..=21 => moves::call(random),
         _ => {
             let mode = if random.chance(95) { random.from(1, 13) } else { random.number() };
             Call::new(Kind::NextMode, &[mode]).with(flags_for(random, mode))
@@ -26,7 +30,7 @@ pub fn call(random: &mut Random) -> Call {
 }
 
 fn read(random: &mut Random, kind: Kind, sound: fn(&mut Random) -> Sound, enough: usize) -> Call {
-    let (given, damaged) = sound(random).altered(random);
+    let (given, damaged) = sound(random).altered(random, DAMAGED);
     Call { damaged, ..Call::new(kind, &[]).with(given).into_room(room(random, enough)) }
 }
 
@@ -70,14 +74,15 @@ pub struct Sound {
 }
 
 impl Sound {
-    /// As it is or damaged, at times cut or with bytes behind it; or random bytes in its place. Whether it is a sound one that was changed.
-    pub fn altered(self, random: &mut Random) -> (Vec<u8>, bool) {
+    /// As it is or, in so many of a hundred cases, damaged; at times cut or with bytes behind it; or random bytes in its place. Whether it
+    /// is a sound one that was changed.
+    pub fn altered(self, random: &mut Random, percent: u32) -> (Vec<u8>, bool) {
         if random.chance(6) {
             let length = random.below(140) as usize;
             return (random.bytes(length), false);
         }
         let mut packet = self.packet.clone();
-        if random.chance(80) {
+        if random.chance(percent) {
             self.damage(random, &mut packet);
         }
         let damaged = packet != self.packet;
@@ -93,7 +98,7 @@ impl Sound {
     }
 
     /// How many gates or turnouts it has.
-    fn count(&self) -> usize {
+    pub fn count(&self) -> usize {
         self.starts.len() - 1
     }
 

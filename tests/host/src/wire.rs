@@ -33,6 +33,8 @@ pub enum Kind {
     Frame,
     ReadGates,
     WriteGates,
+    GatesForward,
+    GatesBack,
     ReadTurnouts,
     WriteTurnouts,
     FrameAge,
