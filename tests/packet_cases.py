@@ -4,19 +4,24 @@
   tests/packet_cases.py stdin  > crates/packet_runs/stdin
   tests/packet_cases.py stdout > crates/packet_runs/stdout
 
-A case is a kind (1 framing, 2 gates read, 3 gates written, 4 turnouts read, 5 turnouts written), the output's room, and the input. The output
-holds AA before each case. The lines, where a place is the first bit of the field at fault, counted from the start of the sub-packet:
+A case is a kind (1 framing, 2 gates read, 3 gates written, 4 turnouts read, 5 turnouts written, 6 gates moved forward from the old form, 7 gates
+moved back to it), the output's room, and the input. The output holds AA before each case. The lines, where a place is the first bit of the field
+at fault, counted from the start of the sub-packet that is read:
 
   1 ANSWER PLACE LENGTH HEX            the sub-packet that was framed: its bytes, and they in hex
   2 ANSWER PLACE GATES BYTES HEX       the gates read, the sub-packet's bytes, the output in hex
   3 ANSWER GATES BYTES HEX             the gates written, the sub-packet's bytes, the output in hex
   4 ANSWER PLACE TURNOUTS BYTES HEX    the same of turnouts read
   5 ANSWER TURNOUTS BYTES HEX          and of turnouts written
+  6 ANSWER PLACE GATES USED WRITTEN HEX    the gates moved forward, the bytes of the sub-packet read and of that written, the output in hex
+  7 ANSWER PLACE GATES USED WRITTEN HEX    the same of gates moved back
 """
 import random
 import sys
 
+# The fields of a gate. The old form has another distance alone: 9 bits, in tens of metres.
 WIDTHS = [("distance", 15), ("number", 10), ("suffix", 3), ("manning", 1), ("class", 3), ("whistling", 1), ("type", 2)]
+OLD_WIDTHS = [("distance", 9), *WIDTHS[1:]]
 ALLOWED = {"number": range(1, 1023), "suffix": range(7), "class": range(7), "type": range(3)}
 
 # A turnout's fields; the distances follow a restricted speed only. Of the codes for speeds the last, 31, is unrestricted.
@@ -53,24 +58,24 @@ def joined(fields, pad):
     return (value << 8 * whole(width) - width | pad).to_bytes(whole(width), "big")
 
 
-def end(gates):
+def end(gates, widths=WIDTHS):
     """the bit behind so many gates"""
-    return 16 + 35 * gates
+    return 16 + sum(width for _, width in widths) * gates
 
 
-def size(gates):
-    return whole(end(gates))
+def size(gates, widths=WIDTHS):
+    return whole(end(gates, widths))
 
 
-def padding(gates):
+def padding(gates, widths=WIDTHS):
     """the bits that fill up to a byte"""
-    return 8 * size(gates) - end(gates)
+    return 8 * size(gates, widths) - end(gates, widths)
 
 
-def pack(gates, length=None, count=None, pad=0, kind=3):
+def pack(gates, length=None, count=None, pad=0, kind=3, widths=WIDTHS):
     """a gate sub-packet, or one that is wrong in a named way"""
-    head = [(kind, 4), (size(len(gates)) if length is None else length, 7), (len(gates) if count is None else count, 5)]
-    return joined(head + [(g[name], width) for g in gates for name, width in WIDTHS], pad)
+    head = [(kind, 4), (size(len(gates), widths) if length is None else length, 7), (len(gates) if count is None else count, 5)]
+    return joined(head + [(g[name], width) for g in gates for name, width in widths], pad)
 
 
 def outside(gates):
@@ -93,11 +98,11 @@ def frame(data, types=range(8)):
     return 0, 0
 
 
-def first_wrong(data, count):
+def first_wrong(data, count, widths):
     """the first bit of the first field that is not allowed, or None"""
     at = 16
     for _ in range(count):
-        for name, width in WIDTHS:
+        for name, width in widths:
             if name in ALLOWED and bits(data, at, width) not in ALLOWED[name]:
                 return at
             at += width
@@ -111,27 +116,44 @@ def first_set(data, at):
     return end_ - value.bit_length() if value else None
 
 
-def gates_in(data, count):
-    return [fields_at(data, end(n), WIDTHS) for n in range(count)]
-
-
-def read_gates(data, room):
-    """the answer, the place, and the gates"""
+def gates_in(data, widths):
+    """the answer, the place, and the gates, before their room is judged"""
     refusal, place = frame(data, range(3, 4))
     if refusal:
         return refusal, place, []
     count = bits(data, 11, 5)
-    if bits(data, 4, 7) != size(count):
+    if bits(data, 4, 7) != size(count, widths) or count in (29, 30, 31):
         return 3, 11, []
-    wrong = first_wrong(data, count)
+    wrong = first_wrong(data, count, widths)
     if wrong is not None:
         return 4, wrong, []
-    pad = first_set(data, end(count))
+    pad = first_set(data, end(count, widths))
     if pad is not None:
         return 5, pad, []
-    if room < 9 * count:
-        return 1, 0, []
-    return 0, 0, gates_in(data, count)
+    return 0, 0, [fields_at(data, end(n, widths), widths) for n in range(count)]
+
+
+def read_gates(data, room):
+    """the answer, the place, and the gates"""
+    answer, place, gates = gates_in(data, WIDTHS)
+    return (1, 0, []) if room < 9 * len(gates) else (answer, place, gates)
+
+
+def move_forward(data, room):
+    """the answer, the place, and the sub-packet in the new form"""
+    answer, place, gates = gates_in(data, OLD_WIDTHS)
+    packet = b"" if answer else pack([g | {"distance": 10 * g["distance"]} for g in gates])
+    return (1, 0, b"") if room < len(packet) else (answer, place, packet)
+
+
+def move_back(data, room):
+    """the answer, the place, and the sub-packet in the old form"""
+    answer, place, gates = gates_in(data, WIDTHS)
+    for n, gate in enumerate(gates):
+        if gate["distance"] not in range(0, 5111, 10):
+            return 6, end(n), b""
+    packet = b"" if answer else pack([g | {"distance": g["distance"] // 10} for g in gates], widths=OLD_WIDTHS)
+    return (1, 0, b"") if room < len(packet) else (answer, place, packet)
 
 
 def write_gates(data, room):
@@ -230,6 +252,10 @@ def expected(kind, room, data):
         answer, place, found = (read_gates if kind == 2 else read_turnouts)(data, room)
         list_ = (outside if kind == 2 else turnouts_outside)(found)
         return f"{kind} {answer} {place} {len(found)} {0 if answer else bits(data, 4, 7)} {(list_ + out[len(list_):]).hex()}"
+    if kind in (6, 7):
+        answer, place, packet = (move_forward if kind == 6 else move_back)(data, room)
+        moved, used = (0, 0) if answer else (bits(data, 11, 5), bits(data, 4, 7))
+        return f"{kind} {answer} {place} {moved} {used} {len(packet)} {(packet + out[len(packet):]).hex()}"
     answer, packet = (write_gates if kind == 3 else write_turnouts)(data, room)
     written = 0 if answer else len(data) // (9 if kind == 3 else 5)
     return f"{kind} {answer} {written} {len(packet)} {(packet + out[len(packet):]).hex()}"
@@ -313,6 +339,151 @@ def place_cases():
                    pack([gate(suffix=7, type=3)], pad=31), pack([gate(type=3)], pad=31), pack([gate()], pad=31), pack([gate()])):
         yield 2, 8, packet
         yield 1, 0, packet
+
+
+# A way to move gates: the kind, the fields of the form that is read and of that which is written, and a distance that can be moved.
+FORWARD = (6, OLD_WIDTHS, WIDTHS, 65)
+BACK = (7, WIDTHS, OLD_WIDTHS, 650)
+
+
+def movable(r, way, count):
+    """so many gates that can be moved, in the numbers of the form that is read"""
+    unit = 1 if way is FORWARD else 10
+    return [some_gate(r) | {"distance": unit * r.randrange(512)} for _ in range(count)]
+
+
+def move_form_cases(way):
+    """the shortest input for each ground of the framing and the length rule, and counts with lengths of either form"""
+    kind, widths, others, distance = way
+    one = [gate(distance=distance)]
+    for packet in (b"", b"\x30", *(bytes([type_ << 4, 0x40]) for type_ in range(16)), b"\x30\x00", b"\x30\x3f", b"\x30\x60", b"\x30\x60\x00", b"\x30\x41"):
+        yield kind, 4, packet
+    yield kind, 9, pack(one, widths=widths)[:-1]
+    for step in (-1, 1):
+        yield kind, 9, pack(one, length=size(1, widths) + step, widths=widths) + b"\x00"
+    for count in (0, 2, 28, 29, 30, 31):
+        yield kind, 9, pack(one, count=count, widths=widths)
+    for count in (1, 2, 7, 28):
+        yield kind, 130, pack([gate(distance=distance)] * count, widths=others) + bytes(25)
+    # the most of the old form take 115 bytes, of the new one 125; whatever is wrong besides, more than 28 gates cannot be moved
+    assert size(31, OLD_WIDTHS) == 115 and size(28) == 125
+    for count in (29, 30, 31):
+        old = [gate(distance=65)] * count
+        yield kind, 140, pack(old, widths=OLD_WIDTHS) + bytes(12)
+        yield kind, 0, pack(spoiled(old, (0, "number", 0)), pad=1, widths=OLD_WIDTHS)
+        yield kind, 140, pack(old, widths=OLD_WIDTHS)[:-1]
+        yield kind, 140, pack(old, length=size(count, OLD_WIDTHS) - 1, widths=OLD_WIDTHS)
+
+
+def move_count_cases(way):
+    """every count that can be moved, with room one byte short, just enough, and more; and what follows the sub-packet"""
+    kind, widths, others, _ = way
+    r = random.Random(kind)
+    for count in range(29):
+        gates = movable(r, way, count)
+        yield kind, size(count, others) + count % 3, pack(gates, widths=widths) + b"\xff" * (count % 4)
+        if count in (0, 1, 8, 27, 28):
+            for room in (size(count, others) - 1, size(count, others), size(count, others) + 5, 0):
+                yield kind, room, pack(gates, widths=widths)
+
+
+def move_field_cases(way):
+    """fields that are not allowed in the first, a middle and the last gate, two in one gate and in two, and what is free at its ends"""
+    kind, widths, _, distance = way
+    r = random.Random(10 + kind)
+    many, three = movable(r, way, 28), movable(r, way, 3)
+    for n in (0, 13, 27):
+        for name, value in WRONG:
+            yield kind, 2, pack(spoiled(many, (n, name, value)), widths=widths)
+    for i, (name, value) in enumerate(WRONG[1:], 1):
+        for other, wrong in WRONG[i + 1:]:
+            yield kind, 40, pack(spoiled(three, (1, name, value), (1, other, wrong)), widths=widths)
+        for other, wrong in WRONG[1:]:
+            yield kind, 2, pack(spoiled(three, (1, name, value), (2, other, wrong)), widths=widths)
+    yield kind, 130, pack(spoiled(many, *((n, name, value) for n in range(20, 28) for name, value in WRONG[1:])), widths=widths)
+    for name, values in (("number", (1, 1022)), ("suffix", (0, 6)), ("manning", (0, 1)), ("class", (0, 6)), ("whistling", (0, 1)), ("type", (0, 2))):
+        for value in values:
+            yield kind, 12, pack([gate(distance=distance), gate(**{"distance": distance, name: value})], widths=widths)
+
+
+def move_padding_cases(way):
+    """eight counts running have a padding of each width: each bit alone, all together, and the first with the last"""
+    kind, widths, _, _ = way
+    r = random.Random(20 + kind)
+    assert sorted(padding(n, widths) for n in range(1, 9)) == list(range(8))
+    for n in (*range(1, 9), 28):
+        gates, width = movable(r, way, n), padding(n, widths)
+        for bit in range(width):
+            yield kind, 0, pack(gates, pad=1 << bit, widths=widths)
+        if width:
+            yield kind, 130, pack(gates, pad=(1 << width) - 1, widths=widths)
+            yield kind, 130, pack(gates, pad=1 << width - 1 | 1, widths=widths)
+            yield kind, 130, pack(spoiled(gates, (n - 1, "type", 3)), pad=(1 << width) - 1, widths=widths)
+
+
+def move_order_cases(way):
+    """each case lacks the ground that the one before was refused for"""
+    kind, widths, others, distance = way
+    # the distance is all ones, which can go forward alone, and then one that can be moved
+    width = widths[0][1]
+    bad = spoiled([gate(distance=(1 << width) - 1)], *((0, name, value) for name, value in WRONG))
+    pad = (1 << padding(1, widths)) - 1
+    for packet in (pack(bad, kind=8, length=1, count=30, pad=pad, widths=widths)[:1], pack(bad, kind=8, length=1, count=30, pad=pad, widths=widths),
+                   pack(bad, length=1, count=30, pad=pad, widths=widths), pack(bad, count=30, pad=pad, widths=widths)[:-1],
+                   pack(bad, count=30, pad=pad, widths=widths), pack(bad, pad=pad, widths=widths),
+                   pack([gate(distance=bad[0]["distance"], suffix=7, type=3)], pad=pad, widths=widths),
+                   pack([gate(distance=bad[0]["distance"], type=3)], pad=pad, widths=widths),
+                   pack([gate(distance=bad[0]["distance"])], pad=pad, widths=widths),
+                   pack([gate(distance=bad[0]["distance"])], widths=widths), pack([gate(distance=distance)], widths=widths)):
+        yield kind, size(1, others) - 1, packet
+    yield kind, size(1, others), packet
+
+
+def distance_cases():
+    """distances that go forward, and those that can go back and cannot: alone, and where the first of several is told"""
+    for tens in (0, 1, 9, 10, 255, 256, 257, 510, 511):
+        yield 6, 7, pack([gate(distance=tens)], widths=OLD_WIDTHS)
+    for metres in (0, 1, 5, 9, 10, 11, 90, 100, 255, 256, 2550, 2560, 5100, 5101, 5105, 5109, 5110, 5111, 5115, 5119, 5120, 5121, 5130, 8190, 10230,
+                   10240, 10250, 16380, 32760, 32767):
+        yield 7, 6, pack([gate(distance=metres)])
+    near = [gate(distance=5110)] * 28
+    for n in (0, 1, 13, 26, 27):
+        for metres in (5105, 5115, 5120):
+            yield 7, 104, pack(spoiled(near, (n, "distance", metres)))
+    for first in (0, 1, 12, 25, 26):
+        yield 7, 0, pack(spoiled(near, (first, "distance", 5120 + first), (27, "distance", 1), (first + 1, "distance", 32760)))
+    # a field of a later gate, and the padding, are judged before; the room behind
+    for n in (0, 1, 2):
+        far = spoiled(near[:3], (n, "distance", 5120))
+        for name, value in WRONG:
+            yield 7, 30, pack(spoiled(far, (2, name, value)))
+        yield 7, 30, pack(far, pad=1)
+        yield 7, 12, pack(far)
+
+
+def random_move_cases(way):
+    """some sub-packets there and back, and some damaged"""
+    kind, widths, others, _ = way
+    back, r = 13 - kind, random.Random(30 + kind)
+    for n in (1, 2, 5, 14, 28):
+        gates = movable(r, way, n)
+        packet = pack(gates, widths=widths)
+        moved = (move_forward if way is FORWARD else move_back)(packet, 130)[2]
+        yield back, len(packet), moved
+        for _ in range(3):
+            hurt = bytearray(packet + bytes(2))
+            hurt[r.randrange(len(packet))] ^= 1 << r.randrange(8)
+            yield kind, size(n, others) + 2, bytes(hurt)
+
+
+def move_cases():
+    # the paper's gate in both forms
+    yield 6, 9, bytes.fromhex("30C1208184A0FF")
+    yield 7, 9, bytes.fromhex("30E10514061280FF")
+    for way in (FORWARD, BACK):
+        for part in (move_form_cases, move_count_cases, move_field_cases, move_padding_cases, move_order_cases, random_move_cases):
+            yield from part(way)
+    yield from distance_cases()
 
 
 def restricted(speed=6, distance=1200, release=400):
@@ -544,6 +715,7 @@ def cases():
         yield 2, 9 * n + 3, bytes(hurt)
     yield from place_cases()
     yield from turnout_cases()
+    yield from move_cases()
 
 
 if sys.argv[1:] == ["stdin"]:

@@ -311,17 +311,9 @@ fn run_random(seed: u64, count: u64, command: &[String]) -> Result<(), String> {
 }
 
 fn print_moves(forward: &Reads, back: &Reads) {
-    println!(
-        "host: {} moves of gates, {} forward and {} back, of which {} and {} are refused with a place that is not 0 and {} and {} are of \
-         damaged packets",
-        forward.calls + back.calls,
-        forward.calls,
-        back.calls,
-        forward.placed,
-        back.placed,
-        forward.damaged,
-        back.damaged
-    );
+    let (placed, damaged) = (forward.placed + back.placed, forward.damaged + back.damaged);
+    println!("host: {} moves of gates, {} forward and {} back", forward.calls + back.calls, forward.calls, back.calls);
+    println!("host: {placed} of the moves refused with a place that is not 0, {damaged} of damaged packets");
 }
 
 fn main() -> ExitCode {
