@@ -34,6 +34,16 @@ pub struct GatesWritten {
 
 #[repr(C)]
 #[derive(Clone, Copy, Default)]
+pub struct GatesMoved {
+    pub answer: u32,
+    pub place: usize,
+    pub gates: usize,
+    pub used: usize,
+    pub written: usize,
+}
+
+#[repr(C)]
+#[derive(Clone, Copy, Default)]
 pub struct TurnoutsRead {
     pub answer: u32,
     pub place: usize,
@@ -92,6 +102,20 @@ extern "C" {
         bytes: *mut u8,
         bytes_len: usize,
     ) -> *mut GatesWritten;
+    fn kb_gates_forward(
+        to: *mut GatesMoved,
+        bytes: *const u8,
+        bytes_len: usize,
+        moved: *mut u8,
+        moved_len: usize,
+    ) -> *mut GatesMoved;
+    fn kb_gates_back(
+        to: *mut GatesMoved,
+        bytes: *const u8,
+        bytes_len: usize,
+        moved: *mut u8,
+        moved_len: usize,
+    ) -> *mut GatesMoved;
     fn kb_read_turnouts(
         to: *mut TurnoutsRead,
         bytes: *const u8,
@@ -144,6 +168,18 @@ pub fn read_gates(bytes: &[u8], gates: &mut [u8]) -> GatesRead {
 pub fn write_gates(gates: &[u8], bytes: &mut [u8]) -> GatesWritten {
     let mut to = GatesWritten::default();
     unsafe { kb_write_gates(&mut to, gates.as_ptr(), gates.len(), bytes.as_mut_ptr(), bytes.len()) };
+    to
+}
+
+pub fn gates_forward(bytes: &[u8], moved: &mut [u8]) -> GatesMoved {
+    let mut to = GatesMoved::default();
+    unsafe { kb_gates_forward(&mut to, bytes.as_ptr(), bytes.len(), moved.as_mut_ptr(), moved.len()) };
+    to
+}
+
+pub fn gates_back(bytes: &[u8], moved: &mut [u8]) -> GatesMoved {
+    let mut to = GatesMoved::default();
+    unsafe { kb_gates_back(&mut to, bytes.as_ptr(), bytes.len(), moved.as_mut_ptr(), moved.len()) };
     to
 }
 

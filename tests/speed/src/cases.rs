@@ -3,7 +3,7 @@
 
 use crate::{archive, peer};
 use bench_model::session::{Pair, Session};
-use bench_model::{clock, modes, packets, turnouts};
+use bench_model::{clock, modes, old_gates, packets, turnouts};
 use std::cell::RefCell;
 use std::hint::black_box;
 use std::rc::Rc;
@@ -54,12 +54,12 @@ impl Case {
     }
 }
 
-/// A round that reads a sub-packet of so many gates or turnouts.
+/// A round that reads a sub-packet of so many gates or turnouts, or moves one.
 macro_rules! reading {
     ($read:path, $packet:path) => {
         |count| {
-            let (packet, mut list) = ($packet(count), vec![0; 252]);
-            alone(move || assert_eq!($read(black_box(&packet), &mut list).answer, 0))
+            let (packet, mut output) = ($packet(count), vec![0; 252]);
+            alone(move || assert_eq!($read(black_box(&packet), &mut output).answer, 0))
         }
     };
 }
@@ -118,6 +118,13 @@ fn gate_packet(count: u32) -> Vec<u8> {
     let mut packet = vec![0; 125];
     let written = packets::write_gates(&gate_list(count), &mut packet);
     packet.truncate(written.bytes);
+    packet
+}
+
+fn old_gate_packet(count: u32) -> Vec<u8> {
+    let mut packet = vec![0; 115];
+    let moved = old_gates::back(&gate_packet(count), &mut packet);
+    packet.truncate(moved.written);
     packet
 }
 
@@ -180,6 +187,14 @@ fn gate_cases() -> Vec<Case> {
     let writes = counts.map(|count| case("write", count, write).with_peer(writing!(peer::write_gates, gate_list)));
     let frames = [0, 28].map(|count| Case::new(format!("framing, gates: {count}"), count, framing()));
     frames.into_iter().chain(reads).chain(writes).collect()
+}
+
+fn move_cases() -> Vec<Case> {
+    let forward: Makers =
+        (reading!(archive::gates_forward, old_gate_packet), reading!(old_gates::forward, old_gate_packet));
+    let back: Makers = (reading!(archive::gates_back, gate_packet), reading!(old_gates::back, gate_packet));
+    let case = |what, count, makers| Case::new(format!("gates {what}, gates: {count}"), count, makers);
+    vec![case("forward", 1, forward), case("forward", 28, forward), case("back", 28, back)]
 }
 
 /// All turnouts have their distances.
@@ -310,6 +325,7 @@ fn back_cases() -> Vec<Case> {
 
 pub fn all() -> Vec<Case> {
     let mut cases = gate_cases();
+    cases.extend(move_cases());
     cases.extend(turnout_cases());
     cases.extend(plain_cases());
     cases.extend(session_cases(1));
