@@ -1,5 +1,6 @@
-/* A small host: gates are read, turnouts are written and read, and a refusal is said in words; two trains are registered and move, one
- * gets an authority, an SOS limits it, and a step back takes the SOS back. README says how to build and run it. */
+/* A small host: gates are read, and moved from the old form to the new one and back, turnouts are written and read, and a refusal is said
+ * in words; two trains are registered and move, one gets an authority, an SOS limits it, and a step back takes the SOS back. README says
+ * how to build and run it. */
 #include "../include/kavach_bench.h"
 #include <stdio.h>
 #include <stdlib.h>
@@ -7,30 +8,33 @@
 
 static kb_session bench;
 
-/* Says why a read of gates or of turnouts was refused, but for which field is not allowed: that differs. */
+/* Says why a read of gates or of turnouts, or a move of gates, was refused, but for which field is at fault: that differs. */
 static void print_refusal(const char *what, uint32_t answer, size_t place)
 {
     printf("refused %u at bit %u: ", (unsigned)answer, (unsigned)place);
     switch (answer) {
     case KB_TYPE: printf("the type is not that of %s\n", what); break;
-    case KB_LENGTH: printf("the %s\n", place == KB_LENGTH_AT ? "length is below 2" : "count does not fit the length"); break;
+    case KB_LENGTH: printf("the %s\n", place == KB_LENGTH_AT ? "length is below 2" : "count is too high or does not fit the length"); break;
     case KB_FIELD: break;
     case KB_PADDING: printf("a bit of the padding is set\n"); break;
+    case KB_DISTANCE: printf("not in tens of metres, or too far: "); break;
     default: printf("bytes are missing\n"); break;
     }
 }
 
-/* Says which field of which gate starts so many bits behind the first gate's first. Gates are counted from 1, as people do. */
-static void print_field(size_t bit)
+/* Says which field of which gate starts so many bits behind the first gate's first. Gates are counted from 1, as people do. In the old form
+ * a gate has fewer bits, and so many fewer stand before each field that is judged. */
+static void print_field(size_t bit, size_t gate_bits)
 {
     const char *field = "?";
-    switch (bit % KB_GATE_BITS) {
+    switch (bit % gate_bits + (KB_GATE_BITS - gate_bits)) {
+    case 0: field = "distance"; break;
     case KB_NUMBER_AT: field = "number"; break;
     case KB_SUFFIX_AT: field = "suffix"; break;
     case KB_CLASS_AT: field = "class"; break;
     case KB_WHISTLING_TYPE_AT: field = "whistling type"; break;
     }
-    printf("gate %u, its %s\n", (unsigned)(bit / KB_GATE_BITS + 1), field);
+    printf("gate %u, its %s\n", (unsigned)(bit / gate_bits + 1), field);
 }
 
 /* Reads a gate sub-packet, and says the distance of each gate, or where it broke. */
@@ -49,7 +53,36 @@ static void print_gates(const uint8_t *packet, size_t length)
     }
     print_refusal("gates", read.answer, read.place);
     if (read.answer == KB_FIELD)
-        print_field(read.place - KB_FIRST_GATE_AT);
+        print_field(read.place - KB_FIRST_GATE_AT, KB_GATE_BITS);
+}
+
+/* Says what a move of gates did, or where it broke; the gates that it read have so many bits. */
+static void print_move(const char *where, size_t gate_bits, kb_gates_moved moved)
+{
+    if (moved.answer == KB_ACCEPTED) {
+        printf("gates moved %s %u, from %u bytes to %u\n", where, (unsigned)moved.gates, (unsigned)moved.used, (unsigned)moved.written);
+        return;
+    }
+    print_refusal("gates", moved.answer, moved.place);
+    if (moved.answer == KB_FIELD || moved.answer == KB_DISTANCE)
+        print_field(moved.place - KB_FIRST_GATE_AT, gate_bits);
+}
+
+/* Moves a gate from the old form to the new one, and back; then two gates back, of which the second stands at 655 m. */
+static void try_moves(void)
+{
+    /* The gate of main, whose distance is 65 here. */
+    static const uint8_t old[] = {0x30, 0xC1, 0x20, 0x81, 0x84, 0xA0};
+    static const uint8_t gates[] = {650 / 256, 650 % 256, 0, 12, 1, 0, 2, 1, 0, 655 / 256, 655 % 256, 0, 13, 0, 1, 0, 0, 0};
+    uint8_t packet[KB_PACKET_SIZE], moved[KB_OLD_PACKET_SIZE];
+    kb_gates_moved forward = kb_gates_forward(old, sizeof old, packet, sizeof packet);
+    kb_gates_written written;
+
+    print_move("forward", KB_OLD_GATE_BITS, forward);
+    print_gates(packet, forward.written);
+    print_move("back", KB_GATE_BITS, kb_gates_back(packet, forward.written, moved, sizeof moved));
+    written = kb_write_gates(gates, sizeof gates, packet, sizeof packet);
+    print_move("back", KB_GATE_BITS, kb_gates_back(packet, written.bytes, moved, sizeof moved));
 }
 
 /* Says which turnout's speed starts so many bits behind the first turnout's: each one before it takes the bits of a speed, and some
@@ -153,6 +186,7 @@ int main(void)
     print_gates(sound, sizeof sound);
     print_gates(padded, sizeof padded);
     print_gates(third, sizeof third);
+    try_moves();
     try_turnouts();
     printf("frame age %u\n", (unsigned)kb_frame_age(20, 11).age);
 
