@@ -1,7 +1,7 @@
 #!/usr/bin/env python3
 """Holds the documents to what they speak of: tests/documents.py
 
-The answer numbers of ANSWERS.md, the bits of a gate's fields, and the way from a place to a turnout are those of the C header; the examples
+The answer numbers of ANSWERS.md, the bits of a gate's fields in both forms, and the way from a place to a turnout are those of the C header; the examples
 of README.md and RECORDING.md are what the samples and tools/record give; README.md has every crate, and samples/README.md every sample;
 every link leads to a file. The exit status is 1 where something is not so.
 """
@@ -40,17 +40,28 @@ def answers():
             yield f"ANSWERS.md does not say of {line} by whom, when, and what to do"
 
 
+def defined():
+    """The numbers that the header defines, by their names without KB_."""
+    return dict(re.findall(r"^#define KB_(\w+) (\d+)$", text(HEADER), re.MULTILINE))
+
+
 def places():
-    """Where a gate's judged fields start is the same in ANSWERS.md as in the header."""
-    defined = re.findall(r"^#define KB_(NUMBER|SUFFIX|CLASS|WHISTLING_TYPE)_AT (\d+)$", text(HEADER), re.MULTILINE)
-    told = [(line[0].upper().replace(" ", "_"), line[1]) for line in table(DOCS / "ANSWERS.md") if len(line) == 3 and line[1].isdigit()]
-    if not set(defined) <= set(told) or len(defined) != 4:
+    """Where a gate's judged fields start in the new form and in the old one, and the way to the gate, have the header's numbers, in ANSWERS.md
+    and in the header's own words."""
+    numbers = defined()
+    fields = {(name, numbers[f"{name}_AT"], numbers[f"OLD_{name}_AT"]) for name in ("NUMBER", "SUFFIX", "CLASS", "WHISTLING_TYPE")}
+    told = {(line[0].upper().replace(" ", "_"), *line[1:3]) for line in table(DOCS / "ANSWERS.md") if len(line) == 4}
+    if not fields <= told:
         yield "ANSWERS.md and the header have other bits for the fields of a gate"
+    for bits in (numbers["GATE_BITS"], numbers["OLD_GATE_BITS"]):
+        for path in (DOCS / "ANSWERS.md", HEADER):
+            if not all(f"(place - {numbers['FIRST_GATE_AT']}) {sign} {bits}" in text(path) for sign in "/%"):
+                yield f"{path.name} does not tell the gate and the field of a place in gates of {bits} bits"
 
 
 def turnouts():
     """The way from a place to the turnout whose speed starts there has the header's numbers, in ANSWERS.md and in the header's own words."""
-    numbers = dict(re.findall(r"^#define KB_(\w+) (\d+)$", text(HEADER), re.MULTILINE))
+    numbers = defined()
     first, speed, whole = (int(numbers[name]) for name in ("FIRST_TURNOUT_AT", "SPEED_BITS", "TURNOUT_BITS"))
     for path in (DOCS / "ANSWERS.md", HEADER):
         if f"(place - {first}) % {whole - speed} / {speed}" not in text(path):
