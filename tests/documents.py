@@ -1,9 +1,9 @@
 #!/usr/bin/env python3
 """Holds the documents to what they speak of: tests/documents.py
 
-The answer numbers of ANSWERS.md, the bits of a gate's fields in both forms, and the way from a place to a turnout are those of the C header; the examples
-of README.md and RECORDING.md are what the samples and tools/record give; README.md has every crate, and samples/README.md every sample;
-every link leads to a file. The exit status is 1 where something is not so.
+The answer numbers of ANSWERS.md, the bits of a gate's fields in both forms, and the way from a place to a turnout are those of the C header; the
+examples of README.md, RECORDING.md and GATES.md are what the samples, the tools and the program give; README.md has every crate, and the samples' own
+pages every sample; every link leads to a file. The exit status is 1 where something is not so.
 """
 
 import pathlib
@@ -96,34 +96,41 @@ def kinds():
 
 
 def commands():
-    """What a command prints that stands in RECORDING.md behind a $."""
-    blocks = re.findall(r"```\n\$ (.*)\n((?:.*\n)*?)```", text(DOCS / "RECORDING.md"))
-    if not blocks:
-        yield "RECORDING.md shows no command"
-    for command, printed in blocks:
-        run = subprocess.run(["sh", "-c", command], cwd=ROOT, stdout=subprocess.PIPE, stderr=subprocess.STDOUT, check=False)
-        if run.stdout.decode() != printed:
-            yield f"'{command}' prints something else than RECORDING.md says"
+    """What a command prints that stands in RECORDING.md or GATES.md behind a $."""
+    for path in (DOCS / "RECORDING.md", DOCS / "GATES.md"):
+        blocks = re.findall(r"```\n\$ (.*)\n((?:.*\n)*?)```", text(path))
+        if not blocks:
+            yield f"{path.name} shows no command"
+        for command, printed in blocks:
+            run = subprocess.run(["sh", "-c", command], cwd=ROOT, stdout=subprocess.PIPE, stderr=subprocess.STDOUT, check=False)
+            if run.stdout.decode() != printed:
+                yield f"'{command}' prints something else than {path.name} says"
 
 
 def lists():
-    """Every crate and every sample is listed, and nothing else; a sample has all its files."""
+    """Every crate and every sample is listed, and nothing else."""
     crates = set(re.findall(r"^(\w+):", text(ROOT / "crates.txt"), re.MULTILINE))
     listed = {line[0].strip("`") for line in table(ROOT / "README.md") if len(line) == 2 and re.fullmatch(r"`\w+`", line[0])}
     if crates != listed:
         yield f"README.md and crates.txt differ in {sorted(crates ^ listed)}"
-    samples = {path.stem for path in SAMPLES.iterdir() if path.suffix in (".rec", ".txt", ".lst")}
-    named = {name for line in table(SAMPLES / "README.md") for name in re.findall(r"`([\w-]+)`", line[0])}
-    if samples != named:
-        yield f"samples/README.md and samples/ differ in {sorted(samples ^ named)}"
-    for name in sorted(samples):
-        if not all((SAMPLES / (name + suffix)).is_file() for suffix in (".rec", ".txt", ".lst")):
+    yield from samples(SAMPLES, (".rec", ".txt", ".lst"))
+    yield from samples(SAMPLES / "gates", (".txt", ".old", ".new"))
+
+
+def samples(folder, suffixes):
+    """Every sample of a folder is in its README.md, and nothing else; a sample has all its files."""
+    there = {path.stem for path in folder.iterdir() if path.suffix in suffixes}
+    named = {name for line in table(folder / "README.md") for name in re.findall(r"`([\w-]+)`", line[0])}
+    if there != named:
+        yield f"{folder.relative_to(ROOT)} and its README.md differ in {sorted(there ^ named)}"
+    for name in sorted(there):
+        if not all((folder / (name + suffix)).is_file() for suffix in suffixes):
             yield f"sample {name} lacks a file"
 
 
 def links():
     """Every link to a file leads to one."""
-    for path in [ROOT / "README.md", SAMPLES / "README.md", *sorted(DOCS.rglob("*.md")), *sorted((ROOT / "tests").glob("*/*.md"))]:
+    for path in [ROOT / "README.md", *sorted(SAMPLES.rglob("*.md")), *sorted(DOCS.rglob("*.md")), *sorted((ROOT / "tests").glob("*/*.md"))]:
         for target in re.findall(r"\]\(([^)#:]+)(?:#[^)]*)?\)", text(path)):
             if not (path.parent / target).exists():
                 yield f"{path.relative_to(ROOT)} links to {target}, which is not there"
