@@ -87,7 +87,8 @@ def some(chance, values):
 
 def some_gates(chance, count):
     """Gates that both forms hold, and the rules allow."""
-    return [{"distance": some(chance, range(0, 5120, 10)), **{name: some(chance, allowed) for name, (_, allowed) in FIELDS.items()}} for _ in range(count)]
+    allowed = {"distance": range(0, 5120, 10), **{name: values for name, (_, values) in FIELDS.items()}}
+    return [{name: some(chance, values) for name, values in allowed.items()} for _ in range(count)]
 
 
 def some_lists(chance, count):
@@ -330,7 +331,10 @@ def main(words):
     path, count, seed = words[0], recordings.number(words, 1, 60), recordings.number(words, 2, 7)
     chance = random.Random(seed)
     # A program that must be built first says so on standard error.
-    subprocess.run([path, "gates", "forward", "/dev/null"], stdout=subprocess.DEVNULL, stderr=subprocess.DEVNULL, check=False)
+    try:
+        subprocess.run([path, "gates", "forward", "/dev/null"], stdout=subprocess.DEVNULL, stderr=subprocess.DEVNULL, check=False)
+    except OSError as problem:
+        return f"{path} cannot be run: {problem.strerror}"
     with tempfile.TemporaryDirectory() as folder:
         bench = Bench(path, pathlib.Path(folder))
         round_trips(bench, count, chance)

@@ -135,9 +135,9 @@ def damages(tool):
 def any_gates(chance, form):
     """A list whose fields may be any that their bits hold."""
     bits, step = gate_files.FORMS[form]
-    widths = {name: width for name, (width, _) in gate_files.FIELDS.items()}
+    values = {"distance": range(0, step << bits, step), **{name: range(2**width) for name, (width, _) in gate_files.FIELDS.items()}}
     count = chance.randint(0, 31 if form == "old" else 28)
-    return [{"distance": step * chance.getrandbits(bits), **{name: chance.getrandbits(width) for name, width in widths.items()}} for _ in range(count)]
+    return [{name: chance.choice(held) for name, held in values.items()} for _ in range(count)]
 
 
 def sound(chance, form):
