@@ -5,7 +5,7 @@
   tests/expected.py --write             writes it instead, after a case or the session's size was changed
   tests/expected.py --without-driver    compares, and leaves out what the independent model says, which cargo builds
 
-crates/bench is run on a sample. The lines of tests/host/session.calls, which the driver makes, come from the model.
+crates/bench and crates/gate_files are run on a sample each. The lines of tests/host/session.calls, which the driver makes, come from the model.
 """
 
 import pathlib
@@ -27,7 +27,12 @@ SCRIPTS = {
     "tests/host/session.calls": ("session_cases.py", "stdin"),
     "tests/host/session.lines": ("session_cases.py", "stdout", CALLS),
 }
-SAMPLES = {"crates/bench/stdin": "every-answer.rec", "crates/bench/stdout": "every-answer.lst"}
+SAMPLES = {
+    "crates/bench/stdin": "every-answer.rec",
+    "crates/bench/stdout": "every-answer.lst",
+    "crates/gate_files/stdin": "gates/station.old",
+    "crates/gate_files/stdout": "gates/station.new",
+}
 
 
 def made(name):

@@ -1,12 +1,10 @@
 -- THE TURNS OF A PLAY ARE THE LISTING: what was handed to the system, what is pending and what is left are the listing of what was read and of
 -- whatever still comes.
-use mathlib.Core.Bool.{Bool, true, false, not, cond, _&&_, _||_}
+use mathlib.Core.Bool.{Bool, true, false, not, cond, _&&_}
 use mathlib.Core.Path.{_≡_, refl, sym, ap, ap₂, subst, _∙_}
 use mathlib.Core.List.{List, [], _++_, append-assoc, append-nil}
 use Prim.Native.Nat.{ℕ, _+_, _-_, _≤_, _<_}
 use native.Mathlib.Omega.{arith}
-use borrow.Author.Tests.{eqb-true, eqb-false}
-use lib.Dec.{eqb}
 use lib.ListN.{length, take, drop, length-append}
 use lib.Seq.{take-append-le, drop-append-le}
 use Rattle.lines.specs.Line.{room}
@@ -23,12 +21,12 @@ use Rattle.recording.proofs.RecordLaws.{longest-enough}
 use Rattle.listing.specs.Listing.{listedFrom, listing, left}
 use Rattle.listing.proofs.ListingLaws.{turned, ended, used-inside, not-last}
 use Rattle.bench.specs.declared.Play.{Play}
-use Rattle.bench.specs.declared.held.Held.{Held}
+use Rattle.holding.specs.declared.Held.{Held}
 use Rattle.bench.specs.declared.pending.Pending.{Pending}
-use Rattle.bench.specs.Held.{stretch, heldBytes, behindBy, isEnd}
+use Rattle.holding.specs.Held.{stretch, heldBytes, behindBy, isEnd}
 use Rattle.bench.specs.Pending.{pendingBytes, withMore, HasRoom}
 use Rattle.bench.specs.Playing.{Bytes, begunPlay, goesOn, stoppedAt, playedOn, RunsFirst, IsTurn, Turns, none, next, IsPlayed, IsEnded}
-use Rattle.bench.proofs.HeldLaws.{behind-held}
+use Rattle.holding.proofs.HeldLaws.{behind-held, not-end, is-end, none-left}
 use Rattle.bench.proofs.PendingLaws.{text-put}
 
 -- ---- as much is held as a record needs
@@ -47,10 +45,6 @@ module _ (held rest : List ℕ) where
 
 -- ---- ONE TURN
 
-neither : (a b : Bool) → a || b ≡ false → b ≡ false
-neither true b e = let z : _≡_ {A = ℕ} 0 1 = cc (e) in absurd (omega arith)
-neither false b e = e
-
 -- what is pending of a play and what is left of it, where `rest` is still to be read
 abbrev toCome : List ℕ → Play → Bytes → List ℕ
 toCome rest p b =
@@ -60,37 +54,28 @@ toCome rest p b =
 -- no record is run, since nothing is left or nothing can be read
 module _ (p : Play) (bs input : List ℕ) (held : Held) (rest : List ℕ)
     (enough : held .ended ≡ false → longest ≤ length (heldBytes input held)) (closed : held .ended ≡ true → rest ≡ []) where
-  -- nothing is left: there is nothing to come either
-  none-left : length (heldBytes input held) ≡ 0 → length (heldBytes input held ++ rest) ≡ 0
-  none-left z = of (held .ended) refl
-    where
-      of : (b : Bool) → held .ended ≡ b → length (heldBytes input held ++ rest) ≡ 0
-      of true e = omega (arith, length-append (heldBytes input held) rest, ap length (closed e))
-      of false e = absurd (omega (arith, enough e))
-
   stop-left : isEnd held (heldBytes input held) ≡ true → left false bs (heldBytes input held ++ rest) (p .lines) (p .accepted)
       ≡ left (not (held .failed)) bs (heldBytes input held ++ rest) (p .lines) (p .accepted)
-  unfolding isEnd left
+  unfolding left
   stop-left e = of (held .failed) refl
     where
       of : (b : Bool) → held .failed ≡ b → left false bs (heldBytes input held ++ rest) (p .lines) (p .accepted)
           ≡ left (not b) bs (heldBytes input held ++ rest) (p .lines) (p .accepted)
       of true f = refl
       of false f =
-          let z : length (heldBytes input held) ≡ 0 = eqb-true _ _ (sym (ap (λ (b : Bool). b || eqb (length (heldBytes input held)) 0) f) ∙ e) in
-          ended bs (heldBytes input held ++ rest) (p .lines) (p .accepted) false (λ o. none-left z)
+          ended bs (heldBytes input held ++ rest) (p .lines) (p .accepted) false
+          (λ o. none-left longest (heldBytes input held) rest (held .ended) (omega arith) enough closed (is-end held (heldBytes input held) e f))
 
   -- a record is run
   run-left : isEnd held (heldBytes input held) ≡ false → let ran = ranRecord bs (heldBytes input held) (p .lines) in
       left false bs (heldBytes input held ++ rest) (p .lines) (p .accepted)
       ≡ textOf ran
       ++ left (isLast ran) (bytesAfterRecord bs (heldBytes input held) (p .lines)) (heldBytes input (behindBy (ran .used) held) ++ rest) (p .lines + 1) (p .accepted + oneIfAccepted ran)
-  unfolding isEnd
   run-left e =
       let bytes : List ℕ = heldBytes input held in
       let n : ℕ = p .lines in
       let front : take longest (bytes ++ rest) ≡ take longest bytes = front-held bytes rest (held .ended) enough closed in
-      let some : length bytes ≡ 0 → ⊥ = eqb-false (length bytes) 0 (neither (held .failed) (eqb (length bytes) 0) e) in
+      let some : length bytes ≡ 0 → ⊥ = not-end held bytes e .1 in
       let ran : ranRecord bs (bytes ++ rest) n ≡ ranRecord bs bytes n = ran-held bytes rest bs n front in
       let after : bytesAfterRecord bs (bytes ++ rest) n ≡ bytesAfterRecord bs bytes n = left-held bytes rest bs n front in
       let used : ℕ = ranRecord bs bytes n .used in

@@ -3,12 +3,12 @@ use mathlib.Core.{Bool.Bool, Bool.true, Bool.false, Bool.not, Bool.cond, Bool._&
 use Prim.Native.Nat.{ℕ, _+_, _≤_}
 use lib.ListN.{length}
 use Rattle.lines.specs.{Line.room, Text.runLine, Text.endLine}
-use Rattle.records.specs.{Form.mostRecords, declared.told.Ran.Ran}
+use Rattle.records.specs.{Form.longest, Form.mostRecords, declared.told.Ran.Ran}
 use Rattle.turns.specs.{Placing.putAt, Turns.textOf, Turns.oneIfAccepted, Turns.isLast}
 use Rattle.recording.specs.Running.{ranRecord, bytesAfterRecord}
 use Rattle.listing.specs.Listing.{listing}
-use Rattle.bench.specs.{declared.Play.Play, declared.held.Held.Held, declared.pending.Pending.Pending}
-use Rattle.bench.specs.Held.{heldBytes, nothingHeld, behindBy, isEnd, IsReady}
+use Rattle.bench.specs.{declared.Play.Play, declared.pending.Pending.Pending}
+use Rattle.holding.specs.{declared.Held.Held, Held.heldBytes, Held.nothingHeld, Held.behindBy, Held.isEnd, Held.IsReady}
 use Rattle.bench.specs.Pending.{pendingBytes, nothingPending, withMore, HasRoom}
 
 -- the bytes that a play works on
@@ -58,7 +58,7 @@ pub record RunsFirst (play : Play) (held : Held) (pending : Pending) (first sess
 -- ONE TURN: what is held is made ready, there is room for a line, and the first record of what is held is run
 pub record IsTurn (play : Play) (before after : Bytes) (r : Play) : Type 0 where
   pub held : Held
-  pub ready : IsReady (before .input) (play .held) (after .input) held
+  pub ready : IsReady longest (before .input) (play .held) (after .input) held
   pub pending : Pending
   pub roomy : HasRoom (before .output) (play .pending) pending
   pub runs : RunsFirst play held pending (heldBytes (after .input) held) (before .session) (before .output) (after .session) (after .output) r

@@ -1,8 +1,9 @@
 // Plays a recording: reads it from standard input, runs its records on one session and writes the listing to standard output.
-use held::Held;
+use holding::Held;
 use libc::STDERR_FILENO;
 use listing::runs;
 use pending::Pending;
+use records::form::LONGEST;
 ghost use mathlib.Core.Path.{_≡_};
 ghost use Prim.Native.Nat.{_+_, _≤_};
 ghost use lib.ListN.{length};
@@ -12,7 +13,6 @@ ghost use Rattle.recording.specs.Recorded.{emptySession};
 ghost use Rattle.turns.specs.Placing.{putAt};
 ghost use Rattle.bench.specs.Playing.{bytes, begunPlay, goesOn, stoppedAt, CanGoOn, RunsFirst, IsTurn, IsPlayed, IsEnded, IsListed};
 
-mod held;
 mod pending;
 
 // A play between two records. It is over once its last record is listed.
@@ -103,13 +103,13 @@ fn step(play: Play, session: &mut [u8], input: &mut [u8], output: &mut [u8]) -> 
 {
     let earlier = play.held;
     let waiting = play.pending;
-    let held = held::ready(input, earlier);
+    let held = holding::ready(input, earlier, LONGEST);
     let pending = pending::with_room(output, waiting);
     run_first(
         play,
         held,
         pending,
-        held::part(input, held),
+        holding::part(input, held),
         session,
         output,
     )

@@ -94,7 +94,7 @@ module _ (from : Form) where
       pub distance-taken : (q : ℕ) → distanceRefusal (otherForm to) q (metresOf to moved) .number ≡ 0
       distance-taken q = same-number (sym (said (otherForm to) q (metresOf to moved) (comes .goes .says)))
 
--- ---- the whole list
+  -- ---- the whole list
 
   module _ where
     -- it keeps its length, and what lies behind the gates stays

@@ -87,7 +87,11 @@ pub fn move_gates(from: Form, s: &[u8], out: &mut [u8]) -> GatesMoved
     }
     let count = gates::count_of(s);
     distances::restate(from, &mut list, count);
-    let written = gate_writing::write_gates_in(from.other(), &list[..gates::GATE_BYTES * count], out);
+    let written = gate_writing::write_gates_in(
+        from.other(),
+        &list[..gates::GATE_BYTES * count],
+        out,
+    );
     GatesMoved {
         answer: refusals::ACCEPTED,
         place: refusals::NOWHERE,

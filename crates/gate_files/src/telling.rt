@@ -1,0 +1,89 @@
+// What a person and the calling script are told of a file that was moved.
+use crate::files::File;
+use framing::refusals;
+use framing::refusals::Refusal;
+use libc::STDERR_FILENO;
+
+// Where the outcome is told, as a digit: 0 all moved, 1 refused, 2 it could not be done.
+const OUTCOME_FILENO: i32 = 3;
+
+fn say(text: &[u8]) {
+    io::write_all(STDERR_FILENO, text);
+}
+
+fn say_number(n: u64) {
+    io::print_decimal(STDERR_FILENO, n);
+}
+
+fn tell(outcome: u64) {
+    io::print_decimal(OUTCOME_FILENO, outcome);
+}
+
+// No way that is known was asked for.
+pub(crate) fn unclear() {
+    say(b"bench: gates are moved forward or back; give one of the two words\n");
+    tell(2);
+}
+
+// Why, and what to look at. Only bytes can be missing: there is room for every sub-packet.
+fn say_reason(answer: u32) {
+    match answer {
+        1 => say(b"the file ends within it; give the whole file"),
+        2 => say(
+            b"its type is not 3, so it is no gate sub-packet; see where the one before it ends",
+        ),
+        3 => say(
+            b"its length is not that of so many gates, or they are more than the other form holds; see whether the file has the other form",
+        ),
+        4 => say(b"a gate's number, suffix, class or whistling type is not allowed"),
+        5 => say(b"the bits that fill up its last byte are not zero"),
+        _ => say(
+            b"a distance is no multiple of 10 or above 5,110 metres, and the old form cannot say it",
+        ),
+    }
+}
+
+fn say_refused(file: File, refusal: Refusal) {
+    say(b"bench: sub-packet ");
+    say_number(file.packets as u64 + 1);
+    say(b" at byte ");
+    say_number(file.used);
+    say(b" is refused: answer ");
+    say_number(refusal.number as u64);
+    say(b", place ");
+    say_number(refusal.place as u64);
+    say(b": ");
+    say_reason(refusal.number);
+    say(b"\n");
+}
+
+// Says what stopped the file, if anything did, and gives the outcome.
+fn outcome(file: File) -> u64 {
+    let held = file.held;
+    let refusal = file.refusal;
+    if held.failed {
+        say(b"bench: the file cannot be read\n");
+        return 2;
+    }
+    if !file.writable {
+        say(b"bench: the moved sub-packets cannot be written\n");
+        return 2;
+    }
+    if !file.over {
+        say(
+            b"bench: 4,294,967,295 sub-packets are moved, the most for one file; give what lies behind byte ",
+        );
+        say_number(file.used);
+        say(b" as another\n");
+        return 2;
+    }
+    if refusal.number != refusals::ACCEPTED {
+        say_refused(file, refusal);
+        return 1;
+    }
+    0
+}
+
+pub(crate) fn finish(file: File) {
+    tell(outcome(file));
+}
