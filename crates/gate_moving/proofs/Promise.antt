@@ -7,11 +7,11 @@ use native.Mathlib.Omega.{arith}
 use lib.ListN.{length, take, drop}
 use Rattle.numbers.specs.Pieces.{times, unpack}
 use Rattle.numbers.proofs.FieldLaws.{Bytes, field-lt}
-use Rattle.framing.specs.Refusals.{none, orElse}
+use Rattle.framing.specs.Refusals.{none, lengthNotForCount, orElse}
 use Rattle.framing.specs.Framing.{lengthOf, headRefusal}
 use Rattle.framing.specs.declared.refusals.Refusal.{Refusal}
 use Rattle.framing.proofs.PlaceLaws.{head-told, head-few}
-use Rattle.framing.proofs.RefusalLaws.{same-number, orElse-first, orElse-then, orElse-go, orElse-stop, next, not-below, last-not-below, along, tested, Clear, clear-orElse, unless-none, unless-some}
+use Rattle.framing.proofs.RefusalLaws.{same-number, orElse-first, orElse-then, orElse-go, orElse-stop, next, ends, not-below, last-differ, last-not-below, along, tested, Clear, clear-orElse, unless-none, unless-some}
 use Rattle.profiles.specs.Profiles.{Profile, countOf, bytesFor, firstAt}
 use Rattle.profiles.specs.Reading.{entriesOf, bitsOf, shapeRefusal, readRefusal}
 use Rattle.profiles.specs.Writing.{entriesIn, sizeFor, written, writeRefusal}
@@ -27,7 +27,7 @@ use Rattle.gate_moving.specs.Moving.{distancesRefusal, restated, movedGa
 use Rattle.gate_moving.specs.Moves.{Valid, Moved, gatesIn, gateAt, distanceAt, GoesBack, FirstStuck, Moves}
 use Rattle.gate_moving.specs.declared.GatesMoved.{GatesMoved}
 use Rattle.gate_moving.proofs.ListLaws.{distances-taken, restated-again}
-use Rattle.gate_moving.proofs.MoveLaws.{Judged, judged, listed, length-gates, length-moved, count-moved, size-moved, writer-takes}
+use Rattle.gate_moving.proofs.MoveLaws.{Judged, judged, at-packet, listed, length-gates, length-moved, count-moved, size-moved, writer-takes}
 use Rattle.gate_moving.proofs.DistanceLaws.{Says}
 use Rattle.gate_moving.proofs.StuckLaws.{all-said, each-said, FirstUnsaid, DistancesTold, all-of-them, one-of-them, distances-told}
 use Rattle.gate_moving.proofs.BehindLaws.{move-unread}
@@ -72,6 +72,47 @@ roomy from s room fits = of (ℕ-discrete (judgedRefusal from s .number) 0)
         let small : movedSize from s ≤ room = omega (arith, most-size (otherForm from) (countOf (profileIn from) s) (judged from s z .few)) in
         orElse-go _ _ z ∙ sym (last-not-below room (movedSize from s) _ small) ∙ judged-clear from s z
     of (no ne) = sym (orElse-stop _ _ ne)
+
+-- ---- a list of the other form
+
+-- with a gate or more the two forms have different lengths
+old-shorter : (n : ℕ) → 0 < n → bytesFor (bitsWith 9 n) ≡ bytesFor (bitsWith 15 n) → ⊥
+old-shorter zero some e = omega arith
+old-shorter (suc zero) some e = omega arith
+old-shorter (suc (suc n)) some e = omega arith
+
+other-length : (form : Form) (n : ℕ) → 0 < n → bytesFor (bitsWith (layoutOf form .distance) n) ≡ bytesFor (bitsWith (layoutOf (otherForm form) .distance) n) → ⊥
+unfolding layoutOf otherForm
+other-length = each-form
+    (λ (f : Form). (n : ℕ) → 0 < n → bytesFor (bitsWith (layoutOf f .distance) n) ≡ bytesFor (bitsWith (layoutOf (otherForm f) .distance) n) → ⊥)
+    old-shorter (λ n some e. old-shorter n some (sym e))
+
+one-form : (form : Form) (s : List ℕ) (room : ℕ) → Valid form s → 0 < gatesIn form s → moveRefusal (otherForm form) s room ≡ lengthNotForCount
+unfolding readRefusal shapeRefusal
+one-form form s room valid some =
+    sym (at-packet other s room head few lengthNotForCount wrong (λ z. omega arith))
+  where
+    other : Form
+    other = otherForm form
+
+    n : ℕ
+    n = gatesIn form s
+
+    head : headRefusal s gateType gateType .number ≡ 0
+    head = head-valid form s valid
+
+    size : lengthOf s ≡ bytesFor (bitsWith (layoutOf form .distance) n)
+    size = accepted (profileIn form) s (gateBytes * n) valid .length-right ∙ ap bytesFor (bits-read (layoutOf form .distance) (form-wide form) s)
+
+    few : n ≤ layoutOf (otherForm other) .most
+    few = subst (λ (f : Form). n ≤ layoutOf f .most) (sym (other-other form))
+        (full form s (omega (arith, accepted (profileIn form) s (gateBytes * n) valid .length-right, field-lt s 4 7)))
+
+    differs : lengthOf s ≡ bytesFor (bitsOf (profileIn other) s) → ⊥
+    differs e = other-length form n some (sym size ∙ e ∙ ap bytesFor (bits-read (layoutOf other .distance) (form-wide other) s))
+
+    wrong : lengthNotForCount ≡ packetRefusal other s
+    wrong = ends _ _ (next _ _ head (last-differ (lengthOf s) (bytesFor (bitsOf (profileIn other) s)) _ differs)) (λ z. omega arith)
 
 -- ---- there and back
 
@@ -279,6 +320,7 @@ moves = record {
   back-stuck = back-stuck;
   back-refused = back-refused;
   back-works = back-works;
+  one-form = one-form;
   roomy = roomy;
   there-and-back = λ from s o out hs ho e fits. there-and-back from s o e out fits hs ho;
   unread = move-unread;

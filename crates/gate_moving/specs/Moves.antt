@@ -4,7 +4,7 @@ use mathlib.Core.List.{List, _++_}
 use Prim.Native.Nat.{ℕ, _+_, _*_, _%_, _≤_, _<_}
 use lib.ListN.{length, take, drop}
 use Rattle.numbers.specs.Fields.{field}
-use Rattle.framing.specs.Refusals.{none}
+use Rattle.framing.specs.Refusals.{none, lengthNotForCount}
 use Rattle.framing.specs.Framing.{lengthOf}
 use Rattle.profiles.specs.Profiles.{countOf, bytesFor}
 use Rattle.profiles.specs.Promised.{AreBytes}
@@ -51,6 +51,8 @@ pub record Moves : Type 0 where
   -- and works for every other, given room
   pub back-works : (s : List ℕ) (room : ℕ) → Valid New s → ((i : ℕ) → i < gatesIn New s → GoesBack (distanceAt New s i))
       → bytesFor (bitsWith 9 (gatesIn New s)) ≤ room → moveRefusal New s room ≡ none
+  -- A LIST OF THE OTHER FORM, of a gate or more, is refused with 3 at its count: no list has both forms
+  pub one-form : (form : Form) (s : List ℕ) (room : ℕ) → Valid form s → 0 < gatesIn form s → moveRefusal (otherForm form) s room ≡ lengthNotForCount
   -- ROOM for the most gates of the other form, 125 bytes forward and 115 back, is never too little
   pub roomy : (from : Form) (s : List ℕ) (room : ℕ) → bytesFor (bitsWith (layoutOf (otherForm from) .distance) (layoutOf (otherForm from) .most)) ≤ room
       → moveRefusal from s room ≡ judgedRefusal from s
