@@ -9,13 +9,11 @@ use native.Mathlib.Omega.{arith}
 use lib.ListN.{length, take, drop, length-drop}
 use Rattle.numbers.proofs.FieldLaws.{field-lt}
 use Rattle.framing.specs.Refusals.{none, unlessRefused}
-use Rattle.framing.specs.Framing.{lengthOf}
 use Rattle.framing.specs.declared.refusals.Refusal.{Refusal}
-use Rattle.framing.proofs.RefusalLaws.{unless-none, unless-some}
+use Rattle.framing.proofs.RefusalLaws.{unless-some}
 use Rattle.gates.specs.declared.forms.Form.{Form}
-use Rattle.gate_moving.specs.Moving.{moveAnswer, moveInto}
-use Rattle.gate_moving.specs.declared.GatesMoved.{GatesMoved}
-use Rattle.gate_moving.proofs.MoveLaws.{Took, took}
+use Rattle.gate_moving.specs.Moving.{moveInto}
+use Rattle.gate_moving.proofs.MoveLaws.{took}
 use Rattle.gate_moving.proofs.BehindLaws.{move-unread}
 use Rattle.gate_files.specs.Files.{FileMoved, longest, blank, firstMoved, firstMade, refusalOf, nothingMoved, movedBefore, fileIn, fileMoved}
 

@@ -2,7 +2,7 @@
 use mathlib.Core.Bool.{Bool, true, false, not, cond, _&&_}
 use mathlib.Core.Path.{_≡_, refl, sym, ap, ap₂, subst, _∙_}
 use mathlib.Core.List.{List, [], _++_, append-assoc, append-nil}
-use Prim.Native.Nat.{ℕ, zero, suc, _+_, _-_, _*_, _≤_, _<_}
+use Prim.Native.Nat.{ℕ, _+_, _-_, _*_, _≤_, _<_}
 use native.Mathlib.Decide.{ℕ-discrete}
 use native.Mathlib.Omega.{arith}
 use borrow.Author.Tests.{ltb-true}
@@ -15,14 +15,14 @@ use Rattle.framing.proofs.RefusalLaws.{unless-none, unless-some}
 use Rattle.gates.specs.declared.forms.Form.{Form}
 use Rattle.gate_moving.specs.Moving.{moveInto}
 use Rattle.gate_moving.specs.declared.GatesMoved.{GatesMoved}
-use Rattle.gate_moving.proofs.MoveLaws.{Took, took}
+use Rattle.gate_moving.proofs.MoveLaws.{took}
 use Rattle.holding.specs.declared.Held.{Held}
 use Rattle.holding.specs.Held.{stretch, heldBytes, behindBy, isEnd}
 use Rattle.holding.proofs.HeldLaws.{behind-held, not-end, is-end, none-left}
 use Rattle.gate_files.specs.declared.files.File.{File}
 use Rattle.gate_files.specs.Files.{FileMoved, longest, blank, firstMoved, firstMade, refusalOf, nothingMoved, movedBefore, fileMoved}
-use Rattle.gate_files.specs.Turns.{begunFile, mostPackets, goesOn, CanGoOn, stoppedAt, movedOn, MovesFirst, IsTurn, withWritten, Turns, begin, next, IsMoved}
-use Rattle.gate_files.proofs.FileLaws.{before-nothing, nothing-behind, before-before, firstThen, file-none, file-next, answer-held, made-held}
+use Rattle.gate_files.specs.Turns.{begunFile, mostPackets, goesOn, stoppedAt, movedOn, MovesFirst, IsTurn, withWritten, Turns, begin, next, IsMoved}
+use Rattle.gate_files.proofs.FileLaws.{before-nothing, nothing-behind, before-before, file-none, file-next, answer-held, made-held}
 
 -- what is left of a file, where `rest` is still to be read
 abbrev toCome : Form → List ℕ → File → List ℕ → FileMoved

@@ -7,7 +7,7 @@ use native.Mathlib.Omega.{arith}
 use lib.Dec.{ltb}
 use lib.ListN.{length, take}
 use Rattle.framing.specs.Refusals.{tooManyToMove, refuse, orElse, unlessRefused}
-use Rattle.framing.specs.Framing.{lengthOf, headRefusal}
+use Rattle.framing.specs.Framing.{lengthOf}
 use Rattle.framing.specs.declared.refusals.Refusal.{Refusal}
 use Rattle.framing.proofs.RefusalLaws.{same-number, orElse-first, orElse-stop, unless-some}
 use Rattle.framing.proofs.BehindLaws.{length-front, head-front, unread, inside, there}
@@ -19,7 +19,7 @@ use Rattle.profiles.proofs.BehindLaws.{count-front, entries-front, refusal-fron
 use Rattle.gates.specs.Gates.{gateType, gateBytes, bitsWith}
 use Rattle.gates.specs.Forms.{layoutOf, otherForm, profileIn}
 use Rattle.gates.specs.declared.forms.Form.{Form}
-use Rattle.gate_moving.specs.Moving.{distancesRefusal, restated, movedGates, movedSize, packetRefusal, judgedRefusal, moveRefusal, movedWith, notMoved, moveAnswer, moveInto}
+use Rattle.gate_moving.specs.Moving.{distancesRefusal, restated, packetRefusal, judgedRefusal, moveRefusal, movedWith, notMoved, moveAnswer, moveInto}
 use Rattle.gate_moving.proofs.MoveLaws.{judged}
 
 -- the first n bytes, among them the whole first sub-packet

@@ -1,24 +1,18 @@
 -- Laws of a list of gates whose distances are restated: the writer takes it in the other form, and restated again it is the same list.
 use mathlib.Core.Path.{_≡_, refl, sym, ap, ap₂, _∙_}
-use mathlib.Core.Bool.{Bool, true, false}
-use mathlib.Core.List.{List, [], _∷_, _++_, append-assoc}
-use mathlib.Core.Logic.{⊎-elim}
-use Prim.Native.Nat.{ℕ, zero, suc, _+_, _-_, _*_, _/_, _%_, _^_, _≤_, _<_}
+use mathlib.Core.List.{List, [], _∷_, _++_}
+use Prim.Native.Nat.{ℕ, zero, suc, _+_, _-_, _*_, _^_, _≤_, _<_}
 use native.Mathlib.Omega.{arith}
-use native.Mathlib.Numerals.{add-one}
-use lib.ListN.{length, getD, set, take, drop, length-append, length-drop, take-append-drop, List·getD-append}
-use lib.Seq.{sets-eq, take-append-add, drop-append-add, length-take-le, take-at, drop-at, take-append-le, drop-append-le, drop-drop, getD-take, getD-drop}
-use Rattle.framing.specs.Refusals.{none, orElse}
-use Rattle.framing.specs.declared.refusals.Refusal.{Refusal}
-use Rattle.framing.proofs.RefusalLaws.{same-number, orElse-first, orElse-then, orElse-go, ends}
-use Rattle.profiles.specs.Profiles.{widthsFor}
-use Rattle.profiles.specs.Writing.{widthsRefusal, entryRefusal, listRefusal}
+use lib.ListN.{length, getD, take, drop, length-append, length-drop, take-append-drop, List·getD-append}
+use lib.Seq.{length-take-le, take-at, drop-at, drop-drop, getD-take, getD-drop}
+use Rattle.framing.proofs.RefusalLaws.{same-number, orElse-first, orElse-then, orElse-go}
+use Rattle.profiles.specs.Writing.{entryRefusal, listRefusal}
 use Rattle.profiles.proofs.WritingLaws.{widths-each, widths-all}
 use Rattle.gates.specs.Gates.{gateBytes, gateBits, behindFirst, gateRules, gateRefusal}
 use Rattle.gates.specs.Forms.{layoutOf, otherForm, profileIn}
 use Rattle.gates.specs.declared.forms.Form.{Form}
 use Rattle.gates.proofs.GateLaws.{rules-number}
-use Rattle.gate_moving.specs.Moving.{metresOf, distanceRefusal, distancesRefusal, restatedDistance, restated}
+use Rattle.gate_moving.specs.Moving.{metresOf, distanceRefusal, distancesRefusal, restated}
 use Rattle.gate_moving.proofs.DistanceLaws.{Goes, Returns, high, low, not-refused, said, returns}
 
 -- ---- one gate
@@ -97,40 +91,13 @@ module _ (from : Form) where
   -- ---- the whole list
 
   module _ where
-    -- it keeps its length, and what lies behind the gates stays
+    -- it keeps its length
     pub length-restated : (list : List ℕ) (n : ℕ) → gateBytes * n ≤ length list → length (restated from list n) ≡ length list
     unfolding restated
     length-restated list zero h = refl
     length-restated list (suc n) h =
         let behind : length (restated from (drop gateBytes list) n) ≡ length (drop gateBytes list) = length-restated (drop gateBytes list) n (rw length-drop (omega arith)) in
         rw (length-append, behind, length-rest list (omega arith), length-drop) (omega arith)
-
-    pub restated-append : (list more : List ℕ) (n : ℕ) → length list ≡ gateBytes * n → restated from (list ++ more) n ≡ restated from list n ++ more
-    unfolding restated
-    restated-append list more zero h = refl
-    restated-append list more (suc n) h =
-        let long : gateBytes ≤ length list = omega arith in
-        let at : (k : ℕ) → k < gateBytes → getD (list ++ more) k 0 ≡ getD list k 0 = λ k l. List·getD-append list more 0 k (omega arith) in
-        let front : take 7 (drop 2 (list ++ more)) ≡ rest list long =
-        ap (take 7) (drop-append-le 2 list more (omega arith)) ∙ take-append-le 7 (drop 2 list) more (rw length-drop (omega arith)) in
-        let behind : restated from (drop gateBytes (list ++ more)) n ≡ restated from (drop gateBytes list) n ++ more =
-        ap (λ (l : List ℕ). restated from l n) (drop-append-le gateBytes list more (omega arith))
-        ∙ restated-append (drop gateBytes list) more n (rw length-drop (omega arith)) in
-        (λ i. high from (at 0 (omega arith) i) (at 1 (omega arith) i) ∷ low from (at 0 (omega arith) i) (at 1 (omega arith) i) ∷ (front i ++ behind i))
-        ∙ ap (λ (l : List ℕ). high from (getD list 0 0) (getD list 1 0) ∷ low from (getD list 0 0) (getD list 1 0) ∷ l) (sym (append-assoc (rest list long) (restated from (drop gateBytes list) n) more))
-
-    -- nor does it count in their distances
-    pub distances-append : (list more : List ℕ) (p n : ℕ) → length list ≡ gateBytes * n → distancesRefusal from p (list ++ more) n ≡ distancesRefusal from p list n
-    unfolding distancesRefusal
-    distances-append list more p zero h = refl
-    distances-append list more p (suc n) h =
-        let at : (k : ℕ) → k < gateBytes → getD (list ++ more) k 0 ≡ getD list k 0 = λ k l. List·getD-append list more 0 k (omega arith) in
-        let first : metresOf from (list ++ more) ≡ metresOf from list = λ i. (at 0 (omega arith) i * 256 + at 1 (omega arith) i) * layoutOf from .unit in
-        let q : ℕ = p + gateBits (layoutOf from .distance) in
-        let behind : distancesRefusal from q (drop gateBytes (list ++ more)) n ≡ distancesRefusal from q (drop gateBytes list) n =
-        ap (λ (l : List ℕ). distancesRefusal from q l n) (drop-append-le gateBytes list more (omega arith))
-        ∙ distances-append (drop gateBytes list) more q n (rw length-drop (omega arith)) in
-        λ i. orElse (distanceRefusal to p (first i)) (behind i)
 
   -- where nothing refuses the gates in their own form, nor their distances
   module _ where
@@ -175,57 +142,3 @@ module _ (from : Form) where
         ap (λ (l : List ℕ). restated to l n) behind
         ∙ restated-again (drop gateBytes list) (p + gateBits (layoutOf from .distance)) n (rw length-drop (omega arith)) (orElse-then _ _ e) (orElse-then _ _ d) in
         (λ i. r .same-high i ∷ r .same-low i ∷ (front i ++ again i)) ∙ whole-again list long _ _ refl refl
-
--- ---- the walks over the gates, a turn at a time
-
-module _ (from : Form) where
-  pub distances-none : (p : ℕ) (list : List ℕ) → distancesRefusal from p list 0 ≡ none
-  unfolding distancesRefusal
-  distances-none p list = refl
-
-  -- a distance that is refused ends the walk, and one that is not hands on
-  module _ (p : ℕ) (list : List ℕ) (i m : ℕ) (a : Refusal) (h : 0 < m) (e : a ≡ distanceRefusal (otherForm from) p (metresOf from (drop i list))) where
-    abbrev bits : ℕ
-    bits = gateBits (layoutOf from .distance)
-
-    distances-more : orElse (distanceRefusal (otherForm from) p (metresOf from (drop i list))) (distancesRefusal from (p + bits) (drop (i + gateBytes) list) (m - 1))
-        ≡ distancesRefusal from p (drop i list) m
-    unfolding distancesRefusal
-    distances-more =
-        let n : suc (m - 1) ≡ m = omega arith in
-        ap (λ (l : List ℕ). orElse (distanceRefusal (otherForm from) p (metresOf from (drop i list))) (distancesRefusal from (p + bits) l (m - 1))) (sym (drop-drop gateBytes i list))
-        ∙ ap (distancesRefusal from p (drop i list)) n
-
-    pub distances-stop : (a .number ≡ 0 → ⊥) → a ≡ distancesRefusal from p (drop i list) m
-    distances-stop ne = ends _ _ e ne ∙ distances-more
-
-    pub distances-go : a .number ≡ 0 → distancesRefusal from (p + bits) (drop (i + gateBytes) list) (m - 1) ≡ distancesRefusal from p (drop i list) m
-    distances-go z = sym (orElse-go _ _ (sym (same-number e) ∙ z)) ∙ distances-more
-
-  -- two bytes stored, and then the gates behind them
-  pub restate-more : (list : List ℕ) (at m k d : ℕ) → at + gateBytes ≤ length list → suc k ≡ m → d ≡ restatedDistance from (drop at list)
-      → take (at + gateBytes) (set (set list at (d / 256 % 256)) (at + 1) (d % 256))
-      ++ restated from (drop (at + gateBytes) (set (set list at (d / 256 % 256)) (at + 1) (d % 256))) k
-      ≡ take at list ++ restated from (drop at list) m
-  unfolding restated
-  restate-more list at m k d h more e =
-      let two : List ℕ = d / 256 % 256 ∷ d % 256 ∷ [] in
-      let gone : List ℕ = drop (at + 2) list in
-      let stored : set (set list at (d / 256 % 256)) (at + 1) (d % 256) ≡ take at list ++ (two ++ gone) =
-      ap (λ (j : ℕ). set (set list at (d / 256 % 256)) j (d % 256)) (add-one at) ∙ sets-eq two list at (omega arith) ∙ append-assoc (take at list) two gone in
-      let long : length (take at list) ≡ at = length-take-le at list (omega arith) in
-      let same : drop 2 (drop at list) ≡ gone = drop-drop 2 at list in
-      let front : take (at + gateBytes) (take at list ++ (two ++ gone)) ≡ take at list ++ (two ++ take 7 gone) =
-      ap (λ (j : ℕ). take (j + gateBytes) (take at list ++ (two ++ gone))) (sym long) ∙ take-append-add (take at list) (two ++ gone) gateBytes in
-      let behind : drop (at + gateBytes) (take at list ++ (two ++ gone)) ≡ drop gateBytes (drop at list) =
-      ap (λ (j : ℕ). drop (j + gateBytes) (take at list ++ (two ++ gone))) (sym long) ∙ drop-append-add (take at list) (two ++ gone) gateBytes
-      ∙ ap (drop 7) (sym same) ∙ drop-drop 7 2 (drop at list) in
-      ap (λ (l : List ℕ). take (at + gateBytes) l ++ restated from (drop (at + gateBytes) l) k) stored
-      ∙ (λ i. front i ++ restated from (behind i) k)
-      ∙ append-assoc (take at list) (two ++ take 7 gone) (restated from (drop gateBytes (drop at list)) k)
-      ∙ (λ i. take at list ++ (e i / 256 % 256 ∷ e i % 256 ∷ (take 7 (sym same i) ++ restated from (drop gateBytes (drop at list)) k)))
-      ∙ ap (λ (j : ℕ). take at list ++ restated from (drop at list) j) more
-
-  pub restated-none : (list : List ℕ) (at : ℕ) → take at list ++ restated from (drop at list) 0 ≡ list
-  unfolding restated
-  restated-none list at = take-append-drop at list

@@ -1,32 +1,32 @@
 -- Laws of a move: what was judged, what the writer is handed, and the ways that a move ends.
 use mathlib.Core.Path.{_≡_, refl, sym, ap, ap₂, _∙_}
-use mathlib.Core.List.{List, _++_}
-use Prim.Native.Nat.{ℕ, zero, suc, _+_, _*_, _/_, _%_, _≤_, _<_}
+use mathlib.Core.List.{List}
+use Prim.Native.Nat.{ℕ, _*_, _%_, _≤_, _<_}
 use native.Mathlib.Decide.{ℕ-discrete}
 use native.Mathlib.Omega.{arith}
 use borrow.Author.Tests.{ltb-false}
 use lib.Dec.{ltb}
-use lib.ListN.{length, take, drop, take-append-drop}
-use lib.Seq.{length-take-le, take-at}
-use Rattle.numbers.proofs.FieldLaws.{field-lt}
+use lib.ListN.{length}
+use Rattle.numbers.proofs.FieldLaws.{Bytes}
 use Rattle.framing.specs.Refusals.{tooManyToMove, refuse, orElse}
 use Rattle.framing.specs.Framing.{lengthOf, headRefusal}
 use Rattle.framing.specs.declared.refusals.Refusal.{Refusal}
 use Rattle.framing.proofs.FramingLaws.{headed}
 use Rattle.framing.proofs.RefusalLaws.{same-number, orElse-first, orElse-then, orElse-assoc, ends, next, below, not-below, refuse-none, unless-none, unless-some}
 use Rattle.profiles.specs.Profiles.{Profile, countOf, bytesFor, firstAt}
-use Rattle.profiles.specs.Reading.{entriesOf, readRefusal, readInto, roomRefusal}
-use Rattle.profiles.specs.Writing.{entriesIn, sizeFor, written, listRefusal, writeRefusal, writtenWith, notWritten, writeAnswer, writeInto}
-use Rattle.profiles.specs.declared.EntriesWritten.{EntriesWritten}
-use Rattle.profiles.proofs.ReadingLaws.{accepted, read-roomy, length-entries}
+use Rattle.profiles.specs.Reading.{entriesOf, roomRefusal}
+use Rattle.profiles.specs.Writing.{entriesIn, sizeFor, written, listRefusal, writeRefusal}
+use Rattle.profiles.proofs.ReadingLaws.{accepted, length-entries}
 use Rattle.profiles.proofs.RoundTrip.{entries-listed}
-use Rattle.gates.specs.Gates.{gateType, gateBytes}
+use Rattle.gates.specs.Gates.{gateType, gateBytes, gateWidths, headerPut}
 use Rattle.gates.specs.Forms.{layoutOf, otherForm, profileIn}
 use Rattle.gates.specs.declared.forms.Form.{Form}
-use Rattle.gates.proofs.GateLaws.{regular-in, form-wide, bits-for}
-use Rattle.gate_moving.specs.Moving.{distancesRefusal, restated, movedGates, movedSize, packetRefusal, judgedRefusal, moveRefusal, movedWith, notMoved, moveAnswer, moveInto}
+use Rattle.gates.proofs.GateLaws.{regular-in, form-wide, bits-for, widths-of}
+use Rattle.numbers.specs.Pieces.{times, pack}
+use Rattle.profiles.proofs.WritingLaws.{written-steps}
+use Rattle.gate_moving.specs.Moving.{distancesRefusal, movedGates, movedSize, packetRefusal, judgedRefusal, moveRefusal, movedWith, notMoved, moveAnswer, moveInto}
 use Rattle.gate_moving.specs.declared.GatesMoved.{GatesMoved}
-use Rattle.gate_moving.proofs.ListLaws.{length-restated, restated-append, distances-append, list-taken}
+use Rattle.gate_moving.proofs.ListLaws.{length-restated, list-taken}
 
 module _ (from : Form) where
   module _ (s : List ℕ) where
@@ -88,31 +88,18 @@ module _ (from : Form) where
         (not-below most (entriesIn t list) _ _ (omega (arith, count-moved, g .few))
         (next _ _ right (ap (λ (size : ℕ). roomRefusal size room) (sym size-moved)))))
 
-    -- the gates that were read, at the start of a buffer that held more
-    module _ (buffer : List ℕ) (z : readRefusal f s (length buffer) .number ≡ 0) where
-      pub distances-read : distancesRefusal from (firstAt f) (readInto f s buffer) n ≡ distancesRefusal from (firstAt f) (entriesOf f s) n
-      unfolding readInto
-      distances-read =
-          ap (λ (l : List ℕ). distancesRefusal from (firstAt f) l n) (unless-none _ _ _ z)
-          ∙ distances-append from (entriesOf f s) (drop (gateBytes * n) buffer) (firstAt f) n length-gates
-
-      pub restated-read : take (gateBytes * n) (restated from (readInto f s buffer) n) ≡ movedGates from s
-      unfolding readInto
-      restated-read =
-          ap (λ (l : List ℕ). take (gateBytes * n) (restated from l n)) (unless-none _ _ _ z)
-          ∙ ap (take (gateBytes * n)) (restated-append from (entriesOf f s) (drop (gateBytes * n) buffer) n length-gates)
-          ∙ take-at (movedGates from s) (drop (gateBytes * n) buffer) (gateBytes * n) length-moved
-
-    -- so the list that the writer is handed has the moved gates: k is the count, and `list` what was read, restated
-    pub list-moved : (room k : ℕ) (buffer read list : List ℕ) → moveRefusal from s room .number ≡ 0 → k ≡ n → gateBytes * k ≤ length buffer
-        → read ≡ readInto f s buffer → list ≡ restated from read k → take (gateBytes * k) list ≡ movedGates from s
-    unfolding moveRefusal
-    list-moved room k buffer read list z ek fits er el =
-        let valid : readRefusal f s (length buffer) .number ≡ 0 =
-        same-number (read-roomy f s (length buffer) (gateBytes * n) (omega arith) (omega arith)) ∙ judged (orElse-first _ _ z) .valid in
-        (λ i. take (gateBytes * ek i) (el i))
-        ∙ (λ i. take (gateBytes * n) (restated from (er i) (ek i)))
-        ∙ restated-read buffer valid
+    -- put behind the header they are the sub-packet of the other form
+    pub moved-written : (o headed after : List ℕ) → Bytes o → headed ≡ headerPut (movedSize from s) n o
+        → after ≡ pack headed 16 (times n (gateWidths (layoutOf (otherForm from) .distance))) (movedGates from s) → after ≡ written t (movedGates from s) o
+    unfolding headerPut
+    moved-written o headed after ho eh ea =
+        let list : List ℕ = movedGates from s in
+        let d : ℕ = layoutOf (otherForm from) .distance in
+        let size : movedSize from s ≡ sizeFor t list (entriesIn t list) = sym size-moved in
+        let m : n ≡ entriesIn t list = sym count-moved in
+        written-steps t (regular-in (otherForm from)) list o _ headed after ho (omega (arith, length-moved, count-moved)) refl
+        (eh ∙ (λ i. headerPut (size i) (m i) o))
+        (ea ∙ (λ i. pack headed 16 (times (m i) (gateWidths d)) list) ∙ ap (λ (ws : List ℕ). pack headed 16 ws list) (sym (widths-of d list (entriesIn t list))))
 
     -- the chain of a move, link by link: each ground that does not hold hands on, and the first that holds is the answer
     module _ (room : ℕ) where
@@ -161,15 +148,10 @@ module _ (from : Form) where
         unfolding moveRefusal
         writer-takes = same-number (write-room (judged (orElse-first _ _ clear)) (length o)) ∙ orElse-then _ _ clear
 
-        pub move-accepted : (used bytes : ℕ) (list after : List ℕ) → used ≡ lengthOf s → list ≡ movedGates from s → bytes ≡ writeAnswer t most list o .bytes
-            → after ≡ writeInto t most list o → (movedWith n used bytes ≡ moveAnswer from s o) × (after ≡ moveInto from s o)
-        unfolding moveAnswer moveInto writeAnswer writeInto
-        move-accepted used bytes list after eu el eb ea =
-            let size : bytes ≡ movedSize from s =
-            eb ∙ ap (λ (l : List ℕ). writeAnswer t most l o .bytes) el ∙ ap (λ (w : EntriesWritten). w .bytes) (unless-none _ _ _ writer-takes) ∙ size-moved in (
-              ap₂ (movedWith n) eu size ∙ sym (unless-none _ _ _ clear),
-              ea ∙ ap (λ (l : List ℕ). writeInto t most l o) el ∙ unless-none _ _ _ writer-takes ∙ sym (unless-none _ _ _ clear),
-            )
+        pub move-accepted : (used bytes : ℕ) (after : List ℕ) → used ≡ lengthOf s → bytes ≡ movedSize from s → after ≡ written t (movedGates from s) o
+            → (movedWith n used bytes ≡ moveAnswer from s o) × (after ≡ moveInto from s o)
+        unfolding moveAnswer moveInto
+        move-accepted used bytes after eu eb ea = (ap₂ (movedWith n) eu eb ∙ sym (unless-none _ _ _ clear), ea ∙ sym (unless-none _ _ _ clear))
 
 -- what an accepted move took of the bytes that were lent: the sub-packet, which is some of them
 pub record Took (from : Form) (s o : List ℕ) : Type 0 where

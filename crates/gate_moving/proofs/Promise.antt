@@ -1,20 +1,20 @@
 -- GATES THAT ARE MOVED KEEP THE PROMISE.
-use mathlib.Core.Path.{_≡_, refl, sym, ap, ap₂, subst, _∙_}
-use mathlib.Core.List.{List, _++_}
-use Prim.Native.Nat.{ℕ, zero, suc, _+_, _*_, _%_, _≤_, _<_}
+use mathlib.Core.Path.{_≡_, refl, sym, ap, subst, _∙_}
+use mathlib.Core.List.{List}
+use Prim.Native.Nat.{ℕ, zero, suc, _+_, _*_, _≤_, _<_}
 use native.Mathlib.Decide.{ℕ-discrete}
 use native.Mathlib.Omega.{arith}
 use lib.ListN.{length, take, drop}
 use Rattle.numbers.specs.Pieces.{times, unpack}
 use Rattle.numbers.proofs.FieldLaws.{Bytes, field-lt}
-use Rattle.framing.specs.Refusals.{none, lengthNotForCount, orElse}
+use Rattle.framing.specs.Refusals.{none, lengthNotForCount}
 use Rattle.framing.specs.Framing.{lengthOf, headRefusal}
 use Rattle.framing.specs.declared.refusals.Refusal.{Refusal}
 use Rattle.framing.proofs.PlaceLaws.{head-told, head-few}
-use Rattle.framing.proofs.RefusalLaws.{same-number, orElse-first, orElse-then, orElse-go, orElse-stop, next, ends, not-below, last-differ, last-not-below, along, tested, Clear, clear-orElse, unless-none, unless-some}
-use Rattle.profiles.specs.Profiles.{Profile, countOf, bytesFor, firstAt}
+use Rattle.framing.proofs.RefusalLaws.{same-number, orElse-first, orElse-go, orElse-stop, next, ends, not-below, last-differ, last-not-below, along, tested, Clear, clear-orElse, unless-none, unless-some}
+use Rattle.profiles.specs.Profiles.{Profile, countOf, bytesFor}
 use Rattle.profiles.specs.Reading.{entriesOf, bitsOf, shapeRefusal, readRefusal}
-use Rattle.profiles.specs.Writing.{entriesIn, sizeFor, written, writeRefusal}
+use Rattle.profiles.specs.Writing.{written, writeRefusal}
 use Rattle.profiles.proofs.ReadingLaws.{accepted}
 use Rattle.profiles.proofs.PlaceLaws.{Told, at-header, at-count, at-entry, at-padding, told}
 use Rattle.profiles.proofs.RoundTrip.{Wrote, wrote, read-accepts, write-read, written-past}
@@ -24,7 +24,7 @@ use Rattle.gates.specs.{declared.forms.Form.Form, declared.forms.Form.the-varia
 use Rattle.gates.proofs.GateLaws.{regular-in, form-wide, bits-read, sayable, full, each-form, other-other}
 use Rattle.gate_reading.proofs.ReadingLaws.{gates-entries}
 use Rattle.gate_moving.specs.Moving.{distancesRefusal, restated, movedGates, movedSize, packetRefusal, judgedRefusal, moveRefusal, movedWith, moveAnswer, moveInto}
-use Rattle.gate_moving.specs.Moves.{Valid, Moved, gatesIn, gateAt, distanceAt, GoesBack, FirstStuck, Moves}
+use Rattle.gate_moving.specs.Moves.{Valid, Moved, gatesIn, distanceAt, GoesBack, FirstStuck, Moves}
 use Rattle.gate_moving.specs.declared.GatesMoved.{GatesMoved}
 use Rattle.gate_moving.proofs.ListLaws.{distances-taken, restated-again}
 use Rattle.gate_moving.proofs.MoveLaws.{Judged, judged, at-packet, listed, length-gates, length-moved, count-moved, size-moved, writer-takes}

@@ -1,13 +1,13 @@
 -- Which distance refuses a move, by the bits of the sub-packet: the first that the other form cannot say, or none.
 use mathlib.Core.Path.{_≡_, refl, sym, ap, subst, _∙_}
-use mathlib.Core.List.{List, _++_}
-use Prim.Native.Nat.{ℕ, zero, suc, _+_, _-_, _*_, _≤_, _<_}
+use mathlib.Core.List.{List}
+use Prim.Native.Nat.{ℕ, zero, suc, _+_, _-_, _*_, _<_}
 use native.Mathlib.Nat.{mul-zero, mul-suc, add-zero}
 use native.Mathlib.Decide.{ℕ-discrete}
 use native.Mathlib.Omega.{arith}
-use lib.ListN.{length, drop}
+use lib.ListN.{drop}
 use Rattle.numbers.specs.Fields.{field}
-use Rattle.numbers.specs.Pieces.{total, times, unpack}
+use Rattle.numbers.specs.Pieces.{times, unpack}
 use Rattle.framing.specs.Refusals.{none, orElse}
 use Rattle.framing.specs.declared.refusals.Refusal.{Refusal}
 use Rattle.framing.proofs.RefusalLaws.{same-number, orElse-first, orElse-then, orElse-go, orElse-stop}

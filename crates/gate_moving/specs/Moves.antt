@@ -1,14 +1,14 @@
 -- What is proved of gates that are moved, said by itself: what can be moved, both ways there and back, and that nothing else counts or is changed.
 use mathlib.Core.Path.{_≡_}
 use mathlib.Core.List.{List, _++_}
-use Prim.Native.Nat.{ℕ, _+_, _*_, _%_, _≤_, _<_}
+use Prim.Native.Nat.{ℕ, _+_, _%_, _≤_, _<_}
 use lib.ListN.{length, take, drop}
 use Rattle.numbers.specs.Fields.{field}
 use Rattle.framing.specs.Refusals.{none, lengthNotForCount}
 use Rattle.framing.specs.Framing.{lengthOf}
 use Rattle.profiles.specs.Profiles.{countOf, bytesFor}
 use Rattle.profiles.specs.Promised.{AreBytes}
-use Rattle.gates.specs.Gates.{gateBits, bitsWith}
+use Rattle.gates.specs.Gates.{bitsWith}
 use Rattle.gates.specs.Forms.{layoutOf, otherForm, profileIn}
 use Rattle.gates.specs.{declared.forms.Form.Form, declared.forms.Form.the-variants.Old, declared.forms.Form.the-variants.New}
 use Rattle.gate_moving.specs.Moving.{movedSize, packetRefusal, judgedRefusal, moveRefusal, movedWith, moveAnswer, moveInto}

@@ -1,20 +1,19 @@
-// The distances of gates outside a sub-packet, the first two of a gate's 9 bytes, judged and restated for the other form.
+// The distances of gates that are kept as the number that their bits are, judged and restated for the other form.
 use framing::refusals;
 use framing::refusals::Refusal;
 use gates::forms::Form;
 ghost use mathlib.Core.Path.{_≡_};
-ghost use Prim.Native.Nat.{_+_, _*_, _/_, _≤_};
-ghost use lib.ListN.{length, drop};
-ghost use lib.Seq.{sets};
-ghost use Rattle.gates.specs.Gates.{gateBytes};
-ghost use Rattle.gate_moving.specs.Moving.{metresOf, distanceRefusal, distancesRefusal, restated};
+ghost use Prim.Native.Nat.{_+_, _*_, _/_, _%_, _≤_};
+ghost use lib.ListN.{length};
+ghost use lib.Seq.{slice};
+ghost use Rattle.gate_reading.specs.Steps.{digits, spread};
+ghost use Rattle.gate_moving.specs.Moving.{metresOf, distanceRefusal, distancesRefusal, restatedDistance};
 
-// The metres that the distance of the gate at byte `at` of a list means.
-fn metres_at(form: Form, list: &[u8], at: usize) -> u32
-    requires { ⌜ at ≤ 279 ⌝ }
-    ensures { λ r. ⌜ (r ≡ metresOf form (drop at (now (list .entry)))) × (r ≤ 655350) ⌝ }
+// The metres that a gate's distance means.
+fn metres_of(form: Form, gate: u64) -> u32
+    ensures { λ r. ⌜ (r ≡ metresOf form (digits gate)) × (r ≤ 655350) ⌝ }
 {
-    numbers::half_at(list, at) * form.layout().unit
+    (gate / gates::DISTANCE_WEIGHT % 65536) as u32 * form.layout().unit
 }
 
 // The refusal of a distance that starts at bit p and is to be said in the form `to`.
@@ -31,40 +30,29 @@ fn distance_refusal(to: Form, p: usize, metres: u32) -> Refusal
     refusals::NONE
 }
 
-// The first refusal of the distances of n gates.
-pub(crate) fn refusal(from: Form, list: &[u8], n: usize) -> Refusal
-    requires { ⌜ n ≤ 31 ⌝ }
-    ensures { λ r. ⌜ r ≡ distancesRefusal from 16 (now (list .entry)) n ⌝ }
+// The first refusal of the distances of the first n gates that were kept.
+pub(crate) fn refusal(from: Form, kept: &[u64], n: usize) -> Refusal
+    requires { ⌜ (n ≤ 31) × (n ≤ length (now kept)) ⌝ }
+    ensures { λ r. ⌜ r ≡ distancesRefusal from 16 (spread (slice 0 n (now (kept .entry)))) n ⌝ }
 {
     let layout = from.layout();
     let mut p = 16;
-    let mut at = 0;
     let mut i = 0;
     while i < n {
-        let refusal = distance_refusal(from.other(), p, metres_at(from, list, at));
+        let refusal = distance_refusal(from.other(), p, metres_of(from, kept[i]));
         if refusal.number != refusals::ACCEPTED {
             return refusal;
         }
         p += gates::gate_bits(layout.distance);
-        at += gates::GATE_BYTES;
         i += 1;
     }
     refusals::NONE
 }
 
-// Says the distances of the first n gates in the other form.
-pub(crate) fn restate(from: Form, list: &mut [u8], n: usize)
-    requires { ⌜ (n ≤ 31) × (gateBytes * n ≤ length (now list)) ⌝ }
-    ensures { λ _. ⌜ now (list .exit) ≡ restated from (now (list .entry)) n ⌝ }
+// A gate with its distance said in the other form, as two bytes hold it.
+pub(crate) fn restated(from: Form, gate: u64) -> u64
+    ensures { λ r. ⌜ r ≡ restatedDistance from (digits gate) % 65536 * 1048576 + gate % 1048576 ⌝ }
 {
-    let to = from.other().layout();
-    let mut at = 0;
-    let mut i = 0;
-    while i < n {
-        let distance = metres_at(from, list, at) / to.unit;
-        list[at] = (distance / 256 % 256) as u8;
-        list[at + 1] = (distance % 256) as u8;
-        at += gates::GATE_BYTES;
-        i += 1;
-    }
+    let distance = metres_of(from, gate) / from.other().layout().unit % 65536;
+    distance as u64 * gates::DISTANCE_WEIGHT + gate % gates::DISTANCE_WEIGHT
 }

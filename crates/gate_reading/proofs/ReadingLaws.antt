@@ -114,7 +114,7 @@ module _ (kept : List ℕ) (i n : ℕ) (h : i < n) (long : n ≤ length kept) wh
   behind = slice (i + 1) n kept
 
   -- the first gate, and those behind
-  first-gate : slice i n kept ≡ gate ∷ behind
+  pub first-gate : slice i n kept ≡ gate ∷ behind
   first-gate = slice-cons i n kept 0 h long ∙ ap (λ (k : ℕ). gate ∷ slice k n kept) (sym (add-one i))
 
   -- the rules on it stop at a gate that is refused, and go on past one that is not

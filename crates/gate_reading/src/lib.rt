@@ -15,11 +15,10 @@ ghost use Rattle.framing.specs.Refusals.{orElse, unlessRefused};
 ghost use Rattle.profiles.specs.Profiles.{rulesRefusal};
 ghost use Rattle.profiles.specs.Reading.{endRefusal, readAnswer, readInto};
 ghost use Rattle.gates.specs.Gates.{gateProfile, gateProfileWith, gateBytes, gateBits, bitsWith, gateRefusal};
-ghost use Rattle.gates.specs.Forms.{profileIn};
-ghost use Rattle.gate_reading.specs.Steps.{firstGates, digits, spread, rulesFrom};
+ghost use Rattle.gate_reading.specs.Steps.{firstGates, digits, spread, rulesFrom, keptGates, HoldsGates, keptRefusal};
 
 // The most gates that a count of 5 bits can say.
-const MOST_COUNTED: usize = 31;
+pub const MOST_COUNTED: usize = 31;
 
 // The bits of the gate at bit p as one number. Its fields are digits of it, counted from the lowest, so that the width of the distance moves none.
 fn gate_at(s: &[u8], p: usize, distance: u8) -> u64
@@ -87,6 +86,20 @@ fn rules_refusal(kept: &[u64], distance: u8, n: usize) -> Refusal
     }
 }
 
+// Keeps the gates of a form that a sub-packet says, for whoever does not want them in bytes.
+pub fn keep_gates(form: Form, s: &[u8], kept: &mut [u64; MOST_COUNTED])
+    ensures { λ _. ⌜ (now (kept .exit) ≡ keptGates form (now (s .entry)) (now (kept .entry))) × HoldsGates form (now (s .entry)) (now (kept .exit)) ⌝ }
+{
+    load_gates(s, form.layout().distance, gates::count_of(s), kept);
+}
+
+// The first refusal of the gates that were kept.
+pub fn kept_refusal(form: Form, s: &[u8], kept: &[u64; MOST_COUNTED]) -> Refusal
+    ensures { λ r. ⌜ r ≡ keptRefusal form (now (s .entry)) (now (kept .entry)) ⌝ }
+{
+    rules_refusal(kept, form.layout().distance, gates::count_of(s))
+}
+
 // Stores the 9 bytes of a gate from byte `at` on.
 fn fill_gate(gate: u64, out: &mut [u8], at: usize)
     requires { ⌜ at + gateBytes ≤ length (now out) ⌝ }
@@ -141,20 +154,19 @@ fn take_gates(s: &[u8], distance: u8, n: usize, out: &mut [u8]) -> Refusal
     refusals::NONE
 }
 
-// Reads the gate sub-packet of a form that `s` begins with into `out`, 9 bytes for each gate. What follows the sub-packet is ignored, and what
-// lies behind the gates in `out` stays.
-pub fn read_gates_in(form: Form, s: &[u8], out: &mut [u8]) -> EntriesRead
-    ensures { λ r. ⌜ r ≡ readAnswer (profileIn form) (now (s .entry)) (now (out .entry)) ⌝ }
-    ensures { λ _. ⌜ now (out .exit) ≡ readInto (profileIn form) (now (s .entry)) (now (out .entry)) ⌝ }
+// Reads the gate sub-packet that `s` begins with into `out`, 9 bytes for each gate. What follows the sub-packet is ignored, and what lies
+// behind the gates in `out` stays.
+pub fn read_gates(s: &[u8], out: &mut [u8]) -> EntriesRead
+    ensures { λ r. ⌜ r ≡ readAnswer gateProfile (now (s .entry)) (now (out .entry)) ⌝ }
+    ensures { λ _. ⌜ now (out .exit) ≡ readInto gateProfile (now (s .entry)) (now (out .entry)) ⌝ }
 {
-    let layout = form.layout();
     let count = gates::count_of(s);
-    let bits = gates::bits_of(layout.distance, count as u32) as u32;
+    let bits = gates::bits_of(gates::DISTANCE_WIDTH, count as u32) as u32;
     let shape = profiles::shape_refusal(s, gates::GATE_TYPE, bits);
     if shape.number != refusals::ACCEPTED {
         return profiles::refused(shape);
     }
-    let refusal = take_gates(s, layout.distance, count, out);
+    let refusal = take_gates(s, gates::DISTANCE_WIDTH, count, out);
     if refusal.number != refusals::ACCEPTED {
         return profiles::refused(refusal);
     }
@@ -164,12 +176,4 @@ pub fn read_gates_in(form: Form, s: &[u8], out: &mut [u8]) -> EntriesRead
         entries: count,
         bytes: framing::length_of(s),
     }
-}
-
-// The same of the new form.
-pub fn read_gates(s: &[u8], out: &mut [u8]) -> EntriesRead
-    ensures { λ r. ⌜ r ≡ readAnswer gateProfile (now (s .entry)) (now (out .entry)) ⌝ }
-    ensures { λ _. ⌜ now (out .exit) ≡ readInto gateProfile (now (s .entry)) (now (out .entry)) ⌝ }
-{
-    read_gates_in(Form::New, s, out)
 }

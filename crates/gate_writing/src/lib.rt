@@ -2,7 +2,6 @@
 // width of a gate's distance.
 use framing::refusals;
 use framing::refusals::Refusal;
-use gates::forms::Form;
 use profiles::EntriesWritten;
 ghost use mathlib.Core.Path.{_≡_};
 ghost use Prim.Native.Nat.{_+_, _*_, _≤_};
@@ -11,7 +10,6 @@ ghost use Rattle.numbers.specs.Pieces.{pack};
 ghost use Rattle.profiles.specs.Profiles.{bytesFor, widthsOf};
 ghost use Rattle.profiles.specs.Writing.{written, entryRefusal, listRefusal, writeRefusal, writeAnswer, writeInto};
 ghost use Rattle.gates.specs.Gates.{gateProfile, gateProfileWith, gateBytes, gateWidths, bitsWith, mostGates};
-ghost use Rattle.gates.specs.Forms.{layoutOf, profileIn};
 
 fn wide(x: u8) -> u32
     ensures { λ r. ⌜ (r ≡ x) × (r ≤ 255) ⌝ }
@@ -137,48 +135,31 @@ fn put_gates(out: &mut [u8], distance: u8, list: &[u8], n: usize)
     }
 }
 
-// Writes the whole sub-packet of the n gates of a list, and answers its bytes. The padding is the end of the last byte, which is cleared before what
-// stands there is written.
+// Writes the whole sub-packet of the n gates of a list, and answers its bytes.
 fn put_packet(out: &mut [u8], distance: u8, list: &[u8], n: usize) -> usize
     requires { ⌜ (8 ≤ distance) × (distance ≤ 15) × (n ≤ 31) × (length (now list) ≡ gateBytes * n) ⌝ }
     ensures { λ r. ⌜ r ≡ bytesFor (bitsWith distance n) ⌝ }
     ensures { λ _. ⌜ now (out .exit) ≡ written (gateProfileWith distance) (now (list .entry)) (now (out .entry)) ⌝ }
 {
-    let count = n as u32;
-    let bytes = (gates::bits_of(distance, count) + 7) / 8;
-    numbers::put_byte(out, bytes - 1, 0);
-    numbers::put_half(
-        out,
-        0,
-        gates::GATE_TYPE * 4096 + bytes as u32 % 128 * 32 + count,
-    );
+    let bytes = gates::put_header(out, distance, n as u32);
     put_gates(out, distance, list, n);
     bytes
 }
 
-// Writes the gates of `list`, 9 bytes for each, as a sub-packet of a form from the start of `out`. What lies behind it in `out` stays.
-pub fn write_gates_in(form: Form, list: &[u8], out: &mut [u8]) -> EntriesWritten
-    ensures { λ r. ⌜ r ≡ writeAnswer (profileIn form) (layoutOf form .most) (now (list .entry)) (now (out .entry)) ⌝ }
-    ensures { λ _. ⌜ now (out .exit) ≡ writeInto (profileIn form) (layoutOf form .most) (now (list .entry)) (now (out .entry)) ⌝ }
+// Writes the gates of `list`, 9 bytes for each, as a sub-packet from the start of `out`. What lies behind it in `out` stays.
+pub fn write_gates(list: &[u8], out: &mut [u8]) -> EntriesWritten
+    ensures { λ r. ⌜ r ≡ writeAnswer gateProfile mostGates (now (list .entry)) (now (out .entry)) ⌝ }
+    ensures { λ _. ⌜ now (out .exit) ≡ writeInto gateProfile mostGates (now (list .entry)) (now (out .entry)) ⌝ }
 {
-    let layout = form.layout();
-    let judged = write_refusal(list, out.len(), layout.distance, layout.most);
+    let judged = write_refusal(list, out.len(), gates::DISTANCE_WIDTH, gates::MOST_GATES);
     if judged.number != refusals::ACCEPTED {
         return profiles::not_written(judged);
     }
     let entries = list.len() / gates::GATE_BYTES;
-    let bytes = put_packet(out, layout.distance, list, entries);
+    let bytes = put_packet(out, gates::DISTANCE_WIDTH, list, entries);
     EntriesWritten {
         answer: refusals::ACCEPTED,
         entries,
         bytes,
     }
-}
-
-// The same of the new form.
-pub fn write_gates(list: &[u8], out: &mut [u8]) -> EntriesWritten
-    ensures { λ r. ⌜ r ≡ writeAnswer gateProfile mostGates (now (list .entry)) (now (out .entry)) ⌝ }
-    ensures { λ _. ⌜ now (out .exit) ≡ writeInto gateProfile mostGates (now (list .entry)) (now (out .entry)) ⌝ }
-{
-    write_gates_in(Form::New, list, out)
 }

@@ -2,6 +2,7 @@
 use Prim.Native.Nat.{ℕ, _+_, _-_, _*_}
 use mathlib.Core.List.{List, [], _∷_}
 use lib.{ListN.getD, Dec.ltb}
+use Rattle.numbers.specs.{Pieces.pack, Numbers.putNumber}
 use Rattle.framing.specs.Refusals.{notAllowed, refuse, orElse}
 use Rattle.framing.specs.declared.refusals.Refusal.{Refusal}
 use Rattle.profiles.specs.Profiles.{Profile}
@@ -31,6 +32,10 @@ gateBits distance = distance + 20
 -- the bits of a sub-packet of n gates before its padding
 abbrev pub bitsWith : ℕ → ℕ → ℕ
 bitsWith distance n = 16 + gateBits distance * n
+
+-- an output with the header of a sub-packet of n gates put, which has so many bytes: type, length and count; the last of the bytes is cleared before
+unfoldable pub headerPut : ℕ → ℕ → List ℕ → List ℕ
+headerPut bytes n o = pack (putNumber 1 o (bytes - 1) 0) 0 (4 ∷ 7 ∷ 5 ∷ []) (gateType ∷ bytes ∷ n ∷ [])
 
 abbrev pub lastNumber : ℕ  -- the highest number, suffix, class and whistling type that are allowed
 lastNumber = 1022

@@ -27,10 +27,10 @@ impl Form {
                 most: 31,
             },
             Form::New => Layout {
-                distance: 15,
+                distance: crate::DISTANCE_WIDTH,
                 unit: 1,
                 farthest: 32767,
-                most: 28,
+                most: crate::MOST_GATES,
             },
         }
     }

@@ -5,10 +5,15 @@ use framing::refusals;
 use framing::refusals::Refusal;
 ghost use mathlib.Core.Path.{_≡_};
 ghost use Prim.Native.Nat.{_+_, _*_, _≤_};
-ghost use Rattle.profiles.specs.Profiles.{countOf};
-ghost use Rattle.gates.specs.Gates.{gateProfile, gateBits, bitsWith, gateRules};
+ghost use Rattle.profiles.specs.Profiles.{countOf, bytesFor};
+ghost use Rattle.gates.specs.Gates.{gateProfile, gateBits, bitsWith, headerPut, gateRules};
 
 pub const GATE_TYPE: u32 = 3;
+
+// The width of the distance, and the most gates, in the sub-packets that the bench reads and writes.
+pub const DISTANCE_WIDTH: u8 = 15;
+
+pub const MOST_GATES: usize = 28;
 
 pub const GATE_BYTES: usize = 9;
 
@@ -60,6 +65,22 @@ pub fn bits_of(distance: u8, n: u32) -> usize
     ensures { λ r. ⌜ (r ≡ bitsWith distance n) × (r ≤ 16 + 275 * n) ⌝ }
 {
     16 + gate_bits(distance) * n as usize
+}
+
+// Begins a sub-packet of n gates, and answers its bytes: puts type, length and count. Its last byte, at whose end the padding stands, is cleared before
+// what comes there is put.
+pub fn put_header(out: &mut [u8], distance: u8, n: u32) -> usize
+    ensures { λ r. ⌜ r ≡ bytesFor (bitsWith distance n) ⌝ }
+    ensures { λ _. ⌜ now (out .exit) ≡ headerPut (bytesFor (bitsWith distance n)) n (now (out .entry)) ⌝ }
+{
+    let bytes = (bits_of(distance, n) + 7) / 8;
+    numbers::put_byte(out, bytes - 1, 0);
+    numbers::put_half(
+        out,
+        0,
+        GATE_TYPE * 4096 + (bytes % 128) as u32 * 32 + n % 32,
+    );
+    bytes
 }
 
 // The refusal that a gate's fields get; its place is counted from the gate's first bit.

@@ -15,11 +15,10 @@ use Rattle.numbers.proofs.WithinLaws.{field-within}
 use Rattle.framing.specs.Refusals.{orElse, unlessRefused}
 use Rattle.framing.specs.declared.refusals.Refusal.{Refusal}
 use Rattle.framing.specs.Framing.{lengthOf}
-use Rattle.framing.proofs.RefusalLaws.{Clear, clear-refuse, clear-orElse, same-number, orElse-first, orElse-then, next, ends, last-not-below, refuse-none, unless-none, unless-some}
+use Rattle.framing.proofs.RefusalLaws.{Clear, clear-refuse, clear-orElse, same-number, orElse-first, orElse-then, next, ends, refuse-none, unless-none, unless-some}
 use Rattle.framing.proofs.FramingLaws.{Headed, headed}
 use Rattle.profiles.specs.Profiles.{Profile, countOf, firstAt, bytesFor, paddingFor, widthsAt, rulesRefusal}
-use Rattle.profiles.specs.Reading.{entriesOf, bitsOf, paddingRefusal, shapeRefusal, endRefusal, readRefusal, readWith, refusedFor, readAnswer, readInto}
-use Rattle.profiles.specs.declared.EntriesRead.{EntriesRead}
+use Rattle.profiles.specs.Reading.{entriesOf, bitsOf, shapeRefusal, endRefusal, readRefusal, readWith, refusedFor, readAnswer, readInto}
 use Rattle.profiles.proofs.ProfileLaws.{Regular, length-at}
 
 -- the bits that fill up a byte are its low digits
@@ -84,15 +83,6 @@ accepted f s room e =
       fits = end-room s (bitsOf f s) (f .pieces * countOf f s) room end;
     }
 
--- the room does not count where there is enough
-pub read-roomy : (f : Profile) (s : List ℕ) (room more : ℕ) → f .pieces * countOf f s ≤ room → f .pieces * countOf f s ≤ more
-    → readRefusal f s room ≡ readRefusal f s more
-unfolding readRefusal endRefusal
-read-roomy f s room more h l =
-    let bytes : ℕ = f .pieces * countOf f s in
-    ap (λ (r : Refusal). orElse (shapeRefusal (f .kind) s (bitsOf f s)) (orElse (rulesRefusal f (firstAt f) (entriesOf f s) (countOf f s)) (orElse (paddingRefusal s (bitsOf f s)) r)))
-    (sym (last-not-below room bytes _ h) ∙ last-not-below more bytes _ l)
-
 pub length-entries : (f : Profile) → Regular f → (s : List ℕ) → length (entriesOf f s) ≡ f .pieces * countOf f s
 unfolding entriesOf
 length-entries f reg s = length-unpack s (firstAt f) (widthsAt f s (firstAt f) (countOf f s)) ∙ length-at f reg s (firstAt f) (countOf f s)
@@ -117,32 +107,6 @@ module _ (f : Profile) (s o : List ℕ) where
         let out : after ≡ all ++ drop (f .pieces * countOf f s) o =
         eo ∙ sets-eq all o 0 (omega (arith, accepted f s (length o) h .fits)) ∙ ap (λ (m : ℕ). all ++ drop m o) (zero-add (length all) ∙ long) in
         (ap₂ readWith en eb ∙ sym (unless-none _ _ _ h), out ∙ sym (unless-none _ _ _ h))
-
-  answer-none : readRefusal f s (length o) .number ≡ 0 → readAnswer f s o ≡ readWith (countOf f s) (lengthOf s)
-  unfolding readAnswer
-  answer-none z = unless-none _ _ _ z
-
-  answer-some : (readRefusal f s (length o) .number ≡ 0 → ⊥) → readAnswer f s o ≡ refusedFor (readRefusal f s (length o))
-  unfolding readAnswer
-  answer-some ne = unless-some _ _ _ ne
-
-  -- an answer tells the refusal
-  pub answer-accepted : readAnswer f s o .answer ≡ 0 → readRefusal f s (length o) .number ≡ 0
-  answer-accepted e = of (ℕ-discrete (readRefusal f s (length o) .number) 0)
-    where
-      of : Dec (readRefusal f s (length o) .number ≡ 0) → readRefusal f s (length o) .number ≡ 0
-      of (yes z) = z
-      of (no some) = sym (ap (λ (a : EntriesRead). a .answer) (answer-some some)) ∙ e
-
-  pub answer-refused : (readAnswer f s o .answer ≡ 0 → ⊥) → record { number = readAnswer f s o .answer; place = readAnswer f s o .place } ≡ readRefusal f s (length o)
-  answer-refused ne = of (ℕ-discrete (readRefusal f s (length o) .number) 0)
-    where
-      told : EntriesRead → Refusal
-      told a = record { number = a .answer; place = a .place }
-
-      of : Dec (readRefusal f s (length o) .number ≡ 0) → told (readAnswer f s o) ≡ readRefusal f s (length o)
-      of (yes z) = absurd (ne (ap (λ (a : EntriesRead). a .answer) (answer-none z)))
-      of (no some) = ap told (answer-some some)
 
   module _ (shape : Refusal) (es : shape ≡ shapeRefusal (f .kind) s (bitsOf f s)) where
     pub shape-refused : (shape .number ≡ 0 → ⊥) → (refusedFor shape ≡ readAnswer f s o) × (o ≡ readInto f s o)

@@ -1,42 +1,50 @@
 -- `gate_moving::move_gates` meets its contract: everything is judged first, and written afterwards.
-use Prim.Native.Nat.{ℕ, _*_}
-use mathlib.Core.Path.{_≡_, sym, ap, _∙_}
+use Prim.Native.Nat.{ℕ}
+use mathlib.Core.Path.{_≡_, sym, ap, ap₂, _∙_}
 use mathlib.Core.List.{List}
 use native.Mathlib.Omega.{arith}
-use lib.ListN.{length, take}
-use lib.Seq.{length-take-le}
-use Rattle.framing.proofs.RefusalLaws.{same-number}
-use Rattle.profiles.specs.Writing.{writeAnswer, writeInto}
-use Rattle.profiles.specs.declared.EntriesWritten.{EntriesWritten}
-use Rattle.gates.specs.Gates.{gateBytes}
-use Rattle.gates.specs.Forms.{layoutOf, profileIn}
+use lib.Seq.{slice}
+use Rattle.numbers.specs.Pieces.{times, pack}
+use Rattle.profiles.specs.Profiles.{countOf, bytesFor}
+use Rattle.gates.specs.Gates.{gateWidths, bitsWith, headerPut}
+use Rattle.gates.specs.Forms.{layoutOf, otherForm, profileIn}
 use Rattle.gates.specs.declared.forms.Form.{Form}
-use Rattle.gate_moving.specs.Moving.{movedGates, movedWith}
-use Rattle.gate_moving.proofs.MoveLaws.{list-moved, move-refused, move-accepted}
+use Rattle.gates.specs.declared.forms.Layout.{Layout}
+use Rattle.gate_reading.specs.Steps.{spread}
+use Rattle.gate_moving.specs.Moving.{restated, movedSize, movedWith}
+use Rattle.gate_moving.proofs.MoveLaws.{moved-written, move-refused, move-accepted}
 use borrow.Author.Needs.{needs}
 use Rattle.gate_moving.proofs.move_gates.Statement.{statement}
 use Rattle.gate_moving.proofs.move_gates.Tie as tie
 
 returns : tie.Need-returns
 returns c =
-    let taken = c .before .before .before .before in
+    let taken = c .before .before .before in
     let a = taken .before .before .before .before .args in
     let r = move-refused (a .from) (a .s .now) (a .out .now) (taken .take-gates .result) (taken .take-gates .ensures .0) (c .before .if1 .taken) in
     (c .not-moved .ensures ∙ r .0, r .1)
 
-slice-aggregate-write-gates-in : tie.Need-slice-aggregate-write-gates-in
-slice-aggregate-write-gates-in c = sym (length-take-le _ _ (search needs))
+slice-aggregate-put-gates : tie.Need-slice-aggregate-put-gates
+slice-aggregate-put-gates c =
+    let counted = c .before .before .before .before .before .before .before in
+    sym (counted .before .before .before .take-gates .ensures .1 (counted .before .if1 .left) .1)
 
--- the list that the writer is lent
-module _ (c : tie.After-write-gates-in) where
-  abbrev told : tie.After-restate
-  told = c .before .before .before .before .before
+put-gates-requires : tie.Need-put-gates-requires
+put-gates-requires c κs =
+    let counted = c .before .before .before .before .before .before .before .before in
+    let few = counted .count-of .ensures .1 in
+    (few, omega (arith, few, counted .before .before .before .take-gates .ensures .1 (counted .before .if1 .left) .1))
+
+-- what was written
+module _ (c : tie.After-put-gates) where
+  abbrev head : tie.After-put-header
+  head = c .before .before .before .before .before
 
   abbrev counted : tie.After-count-of
-  counted = told .before .before
+  counted = head .before .before .before .before
 
   abbrev taken : tie.After-take-gates
-  taken = counted .before .before .before .before
+  taken = counted .before .before .before
 
   abbrev start : tie.Start
   start = taken .before .before .before .before
@@ -50,32 +58,37 @@ module _ (c : tie.After-write-gates-in) where
   abbrev o : List ℕ
   o = start .args .out .now
 
-  abbrev n : ℕ
-  n = counted .count-of .result
-
   -- nothing refuses
   clear : taken .take-gates .result .number ≡ 0
   clear = counted .before .if1 .left
 
-  list-eq : take (gateBytes * n) (told .restate .last .1 .0) ≡ movedGates from s
-  list-eq = list-moved from s (length o) n _ _ _ (sym (same-number (taken .take-gates .ensures .0)) ∙ clear) (counted .count-of .ensures .0)
-      (omega (arith, counted .count-of .ensures .1)) (taken .take-gates .ensures .1 clear) (told .restate .ensures)
+  count : counted .count-of .result ≡ countOf (profileIn from) s
+  count = counted .count-of .ensures .0
+
+  width : head .before .layout .result ≡ layoutOf (otherForm from)
+  width = head .before .layout .ensures ∙ ap layoutOf (head .before .before .other .ensures)
+
+  size : head .put-header .result ≡ movedSize from s
+  size = head .put-header .ensures .0 ∙ ap₂ (λ (l : Layout) (k : ℕ). bytesFor (bitsWith (l .distance) k)) width count
+
+  headed : head .put-header .last .0 ≡ headerPut (movedSize from s) (countOf (profileIn from) s) o
+  headed = head .put-header .ensures .1 ∙ ap₂ (λ (l : Layout) (k : ℕ). headerPut (bytesFor (bitsWith (l .distance) k)) k o) width count
 
 returns-2 : tie.Need-returns-2
 returns-2 c =
-    let w = c .before .before .before in
-    let other = w .before .before .before .other .ensures in
-    let count = counted w .count-of .ensures .0 in
-    let list : List ℕ = take (gateBytes * n w) (told w .restate .last .1 .0) in
-    let r = move-accepted (from w) (s w) (o w) (taken w .take-gates .result) (taken w .take-gates .ensures .0) (clear w) (c .length-of .result) (w .write-gates-in .result .bytes) list _ (c .length-of .ensures .0) (list-eq w)
-    (ap (λ (e : EntriesWritten). e .bytes) (w .write-gates-in .ensures .0) ∙ ap (λ (form : Form). writeAnswer (profileIn form) (layoutOf form .most) list (o w) .bytes) other)
-    (w .write-gates-in .ensures .1 ∙ ap (λ (form : Form). writeInto (profileIn form) (layoutOf form .most) list (o w)) other) in
-    (ap (λ (k : ℕ). movedWith k (c .length-of .result) (w .write-gates-in .result .bytes)) count ∙ r .0, r .1)
+    let made = c .before .before .before in
+    let n : ℕ = countOf (profileIn (from made)) (s made) in
+    let ws : List ℕ = gateWidths (layoutOf (otherForm (from made)) .distance) in
+    let put = made .put-gates .ensures
+    ∙ ap (λ (m : ℕ). pack (head made .put-header .last .0) 16 (times m ws) (restated (from made) (spread (slice 0 m (taken made .take-gates .last .1 .1 .0))) m)) (count made)
+    ∙ ap (λ (list : List ℕ). pack (head made .put-header .last .0) 16 (times n ws) (restated (from made) list n)) (taken made .take-gates .ensures .1 (clear made) .0) in
+    let r = move-accepted (from made) (s made) (o made) (taken made .take-gates .result) (taken made .take-gates .ensures .0) (clear made) (c .length-of .result) (head made .put-header .result) _ (c .length-of .ensures .0) (size made)
+    (moved-written (from made) (s made) (o made) _ _ (λ k. omega (arith, taken made .before .before .slice-known .given k)) (headed made) put) in
+    (ap (λ (k : ℕ). movedWith k (c .length-of .result) (head made .put-header .result)) (count made) ∙ r .0, r .1)
 
 pub move-gates-spec : {M : Type 1} → statement M
 move-gates-spec =
     tie.close
     (tie.spec
-    (λ c. search needs) (λ c κs. search needs) (λ c κs. search needs) returns (λ c κs. search needs) (λ c. search needs) (λ c κs. search needs)
-    (λ c κs. search needs) (λ c. search needs) (λ c. search needs) slice-aggregate-write-gates-in (λ c κs. search needs) (λ c κs. search needs)
-    (λ c. search needs) returns-2)
+    (λ c κs. search needs) (λ c κs. search needs) returns (λ c κs. search needs) (λ c κs. search needs) (λ c κs. search needs) (λ c. search needs)
+    (λ c κs. search needs) slice-aggregate-put-gates put-gates-requires (λ c κs. search needs) (λ c. search needs) returns-2)

@@ -11,7 +11,8 @@ use Rattle.framing.specs.Refusals.{untold}
 use Rattle.profiles.proofs.WritingLaws.{first-byte, entry-wide}
 use Rattle.gates.specs.Gates.{gateProfileWith, gateRules, gateRefusal}
 use Rattle.gates.proofs.GateLaws.{regular}
-use Rattle.gate_writing.proofs.WritingLaws.{pair-drop, gate-ruled}
+use Rattle.gates.proofs.PutLaws.{pair-drop}
+use Rattle.gate_writing.proofs.WritingLaws.{gate-ruled}
 use borrow.Author.Needs.{needs}
 use Rattle.gate_writing.proofs.gate_refusal.Statement.{statement}
 use Rattle.gate_writing.proofs.gate_refusal.Tie as tie

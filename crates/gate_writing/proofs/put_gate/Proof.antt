@@ -8,7 +8,7 @@ use lib.Seq.{getD-drop}
 use Rattle.numbers.specs.Fields.{put}
 use Rattle.gates.specs.Gates.{gateBits}
 use Rattle.profiles.proofs.WritingLaws.{first-byte}
-use Rattle.gate_writing.proofs.WritingLaws.{pair-drop, gateDigits, gate-put}
+use Rattle.gates.proofs.PutLaws.{pair-drop, gateDigits, gate-put}
 use borrow.Author.Needs.{needs}
 use Rattle.gate_writing.proofs.put_gate.Statement.{statement}
 use Rattle.gate_writing.proofs.put_gate.Tie as tie

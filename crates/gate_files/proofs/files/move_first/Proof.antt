@@ -1,9 +1,8 @@
 -- `gate_files::files::move_first` meets its contract: the law for each way out.
 use mathlib.Core.Path.{_≡_, sym, ap, _∙_}
 use mathlib.Core.Bool.{false}
-use mathlib.Core.List.{List}
 use native.Mathlib.Omega.{arith}
-use Prim.Native.Nat.{ℕ, _+_}
+use Prim.Native.Nat.{_+_}
 use Rattle.framing.specs.Refusals.{none}
 use Rattle.gate_moving.specs.Moving.{moveAnswer, moveInto}
 use Rattle.gate_moving.specs.declared.GatesMoved.{GatesMoved}

@@ -1,8 +1,7 @@
 -- `gate_moving::distances::distance_refusal` meets its contract: the two tests, one after the other.
-use Prim.Native.Nat.{ℕ, _%_, _<_, _≤_}
-use mathlib.Core.Path.{_≡_, sym, ap, subst, _∙_}
+use Prim.Native.Nat.{ℕ, _%_}
+use mathlib.Core.Path.{_≡_, ap, _∙_}
 use native.Mathlib.Omega.{arith}
-use Rattle.framing.specs.Refusals.{noOtherForm, refuse, orElse}
 use Rattle.framing.proofs.RefusalLaws.{below, not-below, last-below, last-not-below}
 use Rattle.gates.specs.Forms.{layoutOf}
 use Rattle.gates.specs.declared.forms.Layout.{Layout}
