@@ -3,9 +3,17 @@ use crate::files::File;
 use framing::refusals;
 use framing::refusals::Refusal;
 use libc::STDERR_FILENO;
+ghost use mathlib.Core.Path.{_≡_};
+ghost use Rattle.gate_files.specs.Outcome.{outcomeOf};
 
-// Where the outcome is told, as a digit: 0 all moved, 1 refused, 2 it could not be done.
+// Where the outcome is told, as a digit.
 const OUTCOME_FILENO: i32 = 3;
+
+const ALL_MOVED: u64 = 0;
+
+const WAS_REFUSED: u64 = 1;
+
+const NOT_DONE: u64 = 2;
 
 fn say(text: &[u8]) {
     io::write_all(STDERR_FILENO, text);
@@ -22,7 +30,7 @@ fn tell(outcome: u64) {
 // No way that is known was asked for.
 pub(crate) fn unclear() {
     say(b"bench: gates are moved forward or back; give one of the two words\n");
-    tell(2);
+    tell(NOT_DONE);
 }
 
 // Why, and what to look at. Only bytes can be missing: there is room for every sub-packet.
@@ -58,16 +66,18 @@ fn say_refused(file: File, refusal: Refusal) {
 }
 
 // Says what stopped the file, if anything did, and gives the outcome.
-fn outcome(file: File) -> u64 {
+fn outcome(file: File) -> u64
+    ensures { λ r. ⌜ r ≡ outcomeOf file ⌝ }
+{
     let held = file.held;
     let refusal = file.refusal;
     if held.failed {
         say(b"bench: the file cannot be read\n");
-        return 2;
+        return NOT_DONE;
     }
     if !file.writable {
         say(b"bench: the moved sub-packets cannot be written\n");
-        return 2;
+        return NOT_DONE;
     }
     if !file.over {
         say(
@@ -75,13 +85,13 @@ fn outcome(file: File) -> u64 {
         );
         say_number(file.used);
         say(b" as another\n");
-        return 2;
+        return NOT_DONE;
     }
     if refusal.number != refusals::ACCEPTED {
         say_refused(file, refusal);
-        return 1;
+        return WAS_REFUSED;
     }
-    0
+    ALL_MOVED
 }
 
 pub(crate) fn finish(file: File) {
