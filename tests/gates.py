@@ -204,7 +204,7 @@ def help_text():
     """How lines are written fits on a screen, and wrong words give the same."""
     asked = subprocess.run([TOOL, "--help"], stdout=subprocess.PIPE, check=False)
     text = asked.stdout.decode()
-    if asked.returncode or len(text.splitlines()) > 24 or max(map(len, text.splitlines())) > 81:
+    if asked.returncode or len(text.splitlines()) > 24 or max(map(len, text.splitlines())) > 80:
         yield "--help does not fit on a screen"
     for words in ([], ["show"], ["show", "older"], ["make", "old"], ["show", "old", "new"], ["help"]):
         if ended(words, subprocess.DEVNULL, subprocess.DEVNULL) != (2, text):

@@ -1,6 +1,6 @@
 -- The grounds on which a sub-packet is refused, and how a chain of grounds gives one refusal. A ground has its number (document 01,
--- "Sub-packets") and its place (document 02, T-03): the first bit of the field at fault, counted from the start of the sub-packet. Number 0 is no
--- refusal.
+-- "Sub-packets"; 6 is of document 02, T-07) and its place (document 02, T-03): the first bit of the field at fault, counted from the start of the
+-- sub-packet. Number 0 is no refusal.
 use Prim.Native.Nat.{ℕ, zero, suc, _+_}
 use mathlib.Core.Bool.{Bool, true, false}
 use Rattle.framing.specs.declared.refusals.Refusal.{Refusal}
@@ -47,8 +47,8 @@ noRoom = record { number = 1; place = nowhere }
 abbrev pub tooManyToMove : Refusal  -- more gates than the form holds to which they are moved
 tooManyToMove = record { number = 3; place = countAt }
 
-abbrev pub noOtherForm : ℕ → Refusal  -- a distance that the form to which it is moved cannot say, which starts at bit p
-noOtherForm p = record { number = 6; place = p }
+abbrev pub distanceStuck : ℕ → Refusal  -- a distance that the form to which it is moved cannot say, which starts at bit p
+distanceStuck p = record { number = 6; place = p }
 
 -- a writer judges no sub-packet, so its own grounds have no place
 

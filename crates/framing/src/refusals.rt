@@ -1,7 +1,7 @@
 // The grounds of refusal, each with its number and its place: the first bit of the field at fault, counted from the start of the sub-packet, and 0
 // where no field is at fault.
 ghost use mathlib.Core.Path.{_≡_};
-ghost use Rattle.framing.specs.Refusals.{notAllowed, paddingSet, noOtherForm, orElse};
+ghost use Rattle.framing.specs.Refusals.{notAllowed, paddingSet, distanceStuck, orElse};
 
 // A ground that holds, or none.
 pub struct Refusal {
@@ -102,8 +102,8 @@ pub fn padding_set(place: usize) -> Refusal
 }
 
 // a distance that the form to which it is moved cannot say, which starts at bit `place`
-pub fn no_other_form(place: usize) -> Refusal
-    ensures { λ r. ⌜ r ≡ noOtherForm place ⌝ }
+pub fn distance_stuck(place: usize) -> Refusal
+    ensures { λ r. ⌜ r ≡ distanceStuck place ⌝ }
 {
     Refusal { number: 6, place }
 }

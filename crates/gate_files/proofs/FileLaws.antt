@@ -2,7 +2,7 @@
 use mathlib.Core.Path.{_≡_, refl, sym, ap, _∙_}
 use mathlib.Core.Bool.{Bool, true, false}
 use mathlib.Core.List.{List, [], _∷_, _++_, append-assoc, append-nil}
-use Prim.Native.Nat.{ℕ, zero, suc, _+_, _-_, _≤_, _<_}
+use Prim.Native.Nat.{ℕ, zero, suc, _+_, _≤_, _<_}
 use native.Mathlib.Nat.{add-assoc, add-zero, zero-add}
 use native.Mathlib.Decide.{ℕ-discrete}
 use native.Mathlib.Omega.{arith}
@@ -39,7 +39,7 @@ module _ (from : Form) where
   -- ---- the first sub-packet of a file
 
   -- what a file comes to, by what its first sub-packet and the rest come to
-  abbrev pub firstThen : List ℕ → FileMoved → FileMoved
+  abbrev firstThen : List ℕ → FileMoved → FileMoved
   firstThen s rest =
       unlessRefused (firstMoved from s .answer) (movedBefore (firstMade from s) 1 (firstMoved from s .used) rest) (nothingMoved (refusalOf (firstMoved from s)))
 

@@ -10,7 +10,7 @@ allMoved = 0
 abbrev pub wasRefused : ℕ  -- a sub-packet is refused
 wasRefused = 1
 
-abbrev pub notDone : ℕ  -- it could not be done: the file cannot be read, nothing can be written, or the file goes on behind the most sub-packets
+abbrev pub notDone : ℕ  -- it could not be done: the file cannot be read, nothing can be written, or the most sub-packets were moved before the file was seen to end
 notDone = 2
 
 unfoldable pub outcomeOf : File → ℕ

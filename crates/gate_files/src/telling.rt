@@ -41,12 +41,16 @@ fn say_reason(answer: u32) {
             b"its type is not 3, so it is no gate sub-packet; see where the one before it ends",
         ),
         3 => say(
-            b"its length is not that of so many gates, or they are more than the other form holds; see whether the file has the other form",
+            b"its length is not that of so many gates, or they are more than 28, the most of the new form; see whether the file has the other form already, or split the list",
         ),
-        4 => say(b"a gate's number, suffix, class or whistling type is not allowed"),
-        5 => say(b"the bits that fill up its last byte are not zero"),
+        4 => say(
+            b"a gate's number is not 1 to 1022, or its suffix, class or whistling type is a spare value; correct the field at the place",
+        ),
+        5 => say(
+            b"the bits that fill up its last byte are not zero; clear them, or see whether the file is damaged",
+        ),
         _ => say(
-            b"a distance is no multiple of 10 or above 5,110 metres, and the old form cannot say it",
+            b"a distance is no multiple of 10 or above 5,110 metres; keep this list in the new form, or change the distance",
         ),
     }
 }
@@ -72,19 +76,23 @@ fn outcome(file: File) -> u64
     let held = file.held;
     let refusal = file.refusal;
     if held.failed {
-        say(b"bench: the file cannot be read\n");
+        say(
+            b"bench: the file cannot be read to its end; see whether it is a file, and its disk is sound\n",
+        );
         return NOT_DONE;
     }
     if !file.writable {
-        say(b"bench: the moved sub-packets cannot be written\n");
+        say(
+            b"bench: the moved sub-packets cannot be written; see whether there is room, and whether the output is still read\n",
+        );
         return NOT_DONE;
     }
     if !file.over {
         say(
-            b"bench: 4,294,967,295 sub-packets are moved, the most for one file; give what lies behind byte ",
+            b"bench: 4,294,967,295 sub-packets are moved, the most at a time; move what stands in the file from byte ",
         );
         say_number(file.used);
-        say(b" as another\n");
+        say(b" on, if anything does, by itself\n");
         return NOT_DONE;
     }
     if refusal.number != refusals::ACCEPTED {

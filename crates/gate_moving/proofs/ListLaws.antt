@@ -22,17 +22,17 @@ module _ (list : List ℕ) (long : gateBytes ≤ length list) where
   abbrev rest : List ℕ
   rest = take 7 (drop 2 list)
 
-  pub length-rest : length rest ≡ 7
+  length-rest : length rest ≡ 7
   length-rest = length-take-le 7 (drop 2 list) (rw length-drop (omega arith))
 
   -- all bytes but the first two are the same
-  pub rest-at : (more : List ℕ) (k : ℕ) → k < 7 → getD (rest ++ more) k 0 ≡ getD list (suc (suc k)) 0
+  rest-at : (more : List ℕ) (k : ℕ) → k < 7 → getD (rest ++ more) k 0 ≡ getD list (suc (suc k)) 0
   rest-at more k h =
       let two : 2 + k ≡ suc (suc k) = omega arith in
       List·getD-append rest more 0 k (omega (arith, length-rest)) ∙ getD-take 7 (drop 2 list) k 0 h ∙ getD-drop 2 list k 0 ∙ ap (λ (i : ℕ). getD list i 0) two
 
   -- with its own two bytes it is the list again
-  pub whole-again : (a b : ℕ) → a ≡ getD list 0 0 → b ≡ getD list 1 0 → a ∷ b ∷ (rest ++ drop gateBytes list) ≡ list
+  whole-again : (a b : ℕ) → a ≡ getD list 0 0 → b ≡ getD list 1 0 → a ∷ b ∷ (rest ++ drop gateBytes list) ≡ list
   whole-again a b ea eb =
       ap (λ (l : List ℕ). a ∷ b ∷ (rest ++ l)) (sym (drop-drop 7 2 list)) ∙ ap (λ (l : List ℕ). a ∷ b ∷ l) (take-append-drop 7 (drop 2 list)) ∙ of list long ea eb
     where
@@ -81,11 +81,11 @@ module _ (from : Form) where
           ∙ rules-number (layoutOf to .distance) (layoutOf from .distance) _ _ _ _
           ∙ orElse-then _ _ right
 
-      pub entry-taken : entryRefusal (profileIn to) moved .number ≡ 0
+      entry-taken : entryRefusal (profileIn to) moved .number ≡ 0
       unfolding entryRefusal
       entry-taken = same-number (orElse-go _ _ (widths-all ((layoutOf to .distance - 8) ∷ behindFirst) moved wide-at)) ∙ ruled
 
-      pub distance-taken : (q : ℕ) → distanceRefusal (otherForm to) q (metresOf to moved) .number ≡ 0
+      distance-taken : (q : ℕ) → distanceRefusal (otherForm to) q (metresOf to moved) .number ≡ 0
       distance-taken q = same-number (sym (said (otherForm to) q (metresOf to moved) (comes .goes .says)))
 
   -- ---- the whole list

@@ -76,7 +76,7 @@ module _ (from : Form) where
         ap (sizeFor t (movedGates from s)) count-moved ∙ ap bytesFor (bits-for (layoutOf (otherForm from) .distance) (form-wide (otherForm from)) (movedGates from s) n)
 
     -- the writer refuses the gates for want of room alone
-    pub write-room : Judged → (room : ℕ) → writeRefusal t most (movedGates from s) room ≡ roomRefusal (movedSize from s) room
+    write-room : Judged → (room : ℕ) → writeRefusal t most (movedGates from s) room ≡ roomRefusal (movedSize from s) room
     unfolding writeRefusal
     write-room g room =
         let list : List ℕ = movedGates from s in

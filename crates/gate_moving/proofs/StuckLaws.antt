@@ -1,7 +1,7 @@
 -- Which distance refuses a move, by the bits of the sub-packet: the first that the other form cannot say, or none.
 use mathlib.Core.Path.{_≡_, refl, sym, ap, subst, _∙_}
 use mathlib.Core.List.{List}
-use Prim.Native.Nat.{ℕ, zero, suc, _+_, _-_, _*_, _<_}
+use Prim.Native.Nat.{ℕ, zero, suc, _+_, _*_, _<_}
 use native.Mathlib.Nat.{mul-zero, mul-suc, add-zero}
 use native.Mathlib.Decide.{ℕ-discrete}
 use native.Mathlib.Omega.{arith}
@@ -31,7 +31,7 @@ module _ (from : Form) (s : List ℕ) where
   bits = gateBits width
 
   -- the metres of the distance that starts at bit p
-  abbrev pub metresAt : ℕ → ℕ
+  abbrev metresAt : ℕ → ℕ
   metresAt p = field s p width * layoutOf from .unit
 
   -- n gates from bit p on

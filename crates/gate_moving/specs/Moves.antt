@@ -1,7 +1,7 @@
 -- What is proved of gates that are moved, said by itself: what can be moved, both ways there and back, and that nothing else counts or is changed.
 use mathlib.Core.Path.{_≡_}
 use mathlib.Core.List.{List, _++_}
-use Prim.Native.Nat.{ℕ, _+_, _%_, _≤_, _<_}
+use Prim.Native.Nat.{ℕ, _%_, _≤_, _<_}
 use lib.ListN.{length, take, drop}
 use Rattle.numbers.specs.Fields.{field}
 use Rattle.framing.specs.Refusals.{none, lengthNotForCount}

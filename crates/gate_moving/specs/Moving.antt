@@ -3,7 +3,7 @@
 use Prim.Native.Nat.{ℕ, zero, suc, _+_, _*_, _/_, _%_}
 use mathlib.Core.List.{List, _∷_, _++_}
 use lib.{ListN.length, ListN.getD, ListN.take, ListN.drop, Dec.ltb}
-use Rattle.framing.specs.Refusals.{nowhere, none, tooManyToMove, noOtherForm, refuse, orElse, unlessRefused}
+use Rattle.framing.specs.Refusals.{nowhere, none, tooManyToMove, distanceStuck, refuse, orElse, unlessRefused}
 use Rattle.framing.specs.Framing.{lengthOf, headRefusal}
 use Rattle.framing.specs.declared.refusals.Refusal.{Refusal}
 use Rattle.profiles.specs.Profiles.{countOf, firstAt, bytesFor}
@@ -21,9 +21,9 @@ metresOf form gate = (getD gate 0 0 * 256 + getD gate 1 0) * layoutOf form .unit
 -- a form can say so many metres where they are a multiple of its unit, and not beyond its farthest. The distance starts at bit p
 unfoldable pub distanceRefusal : Form → ℕ → ℕ → Refusal
 distanceRefusal to p metres =
-    orElse (refuse (ltb 0 (metres % layoutOf to .unit)) (noOtherForm p)) (refuse (ltb (layoutOf to .farthest) metres) (noOtherForm p))
+    orElse (refuse (ltb 0 (metres % layoutOf to .unit)) (distanceStuck p)) (refuse (ltb (layoutOf to .farthest) metres) (distanceStuck p))
 
--- the first n gates of a list, of which the first starts at bit p of the sub-packet
+-- the first refusal of the distances of the first n gates of a list, of which the first starts at bit p of the sub-packet
 unfoldable pub distancesRefusal : Form → ℕ → List ℕ → ℕ → Refusal
 distancesRefusal from p list zero = none
 distancesRefusal from p list (suc n) =
@@ -50,7 +50,7 @@ movedGates from s = restated from (entriesOf (profileIn from) s) (countOf (profi
 abbrev pub movedSize : Form → List ℕ → ℕ
 movedSize from s = bytesFor (bitsWith (layoutOf (otherForm from) .distance) (countOf (profileIn from) s))
 
--- a sub-packet of a form that can be read, whatever the room
+-- the refusal of a sub-packet of a form by itself: the reader's, given room for its gates
 abbrev pub packetRefusal : Form → List ℕ → Refusal
 packetRefusal form s = readRefusal (profileIn form) s (gateBytes * countOf (profileIn form) s)
 

@@ -3,7 +3,7 @@ use framing::refusals;
 use framing::refusals::Refusal;
 use gates::forms::Form;
 ghost use mathlib.Core.Path.{_≡_};
-ghost use Prim.Native.Nat.{_+_, _*_, _/_, _%_, _≤_};
+ghost use Prim.Native.Nat.{_+_, _*_, _%_, _≤_};
 ghost use lib.ListN.{length};
 ghost use lib.Seq.{slice};
 ghost use Rattle.gate_reading.specs.Steps.{digits, spread};
@@ -22,10 +22,10 @@ fn distance_refusal(to: Form, p: usize, metres: u32) -> Refusal
 {
     let layout = to.layout();
     if 0 < metres % layout.unit {
-        return refusals::no_other_form(p);
+        return refusals::distance_stuck(p);
     }
     if layout.farthest < metres {
-        return refusals::no_other_form(p);
+        return refusals::distance_stuck(p);
     }
     refusals::NONE
 }

@@ -37,7 +37,7 @@ spread (gate ∷ more) = digits gate ++ spread more
 abbrev pub rulesFrom : ℕ → List ℕ → ℕ → ℕ → Refusal
 rulesFrom distance kept n i = rulesRefusal (gateProfileWith distance) (bitsWith distance i) (spread (slice i n kept)) (n - i)
 
--- an array of kept gates once those of a form that s says are kept, each as the number that its bits are
+-- an array with the gates that s says put at its front, each as the number that its bits are in the form
 abbrev pub keptGates : Form → List ℕ → List ℕ → List ℕ
 keptGates form s kept = sets kept 0 (unpack s 16 (times (countOf (profileIn form) s) (gateBits (layoutOf form .distance) ∷ [])))
 

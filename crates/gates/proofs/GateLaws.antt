@@ -143,7 +143,7 @@ module _ (form : Form) where
   unfolding layoutOf
   form-narrow = each-form (λ (f : Form). layoutOf f .distance ≤ 15) (omega arith) (omega arith) form
 
-  pub form-most : layoutOf form .most ≤ 31
+  form-most : layoutOf form .most ≤ 31
   unfolding layoutOf
   form-most = each-form (λ (f : Form). layoutOf f .most ≤ 31) (omega arith) (omega arith) form
 

@@ -10,7 +10,7 @@ use Rattle.profiles.specs.Profiles.{Profile}
 abbrev pub gateType : ℕ  -- the type of a gate sub-packet
 gateType = 3
 
-abbrev pub distanceWidth : ℕ  -- the width of the distance in the sub-packets that the bench reads and writes
+abbrev pub distanceWidth : ℕ  -- the width of the distance in the new form
 distanceWidth = 15
 
 abbrev pub gateBytes : ℕ  -- the bytes of a gate outside a sub-packet
@@ -86,7 +86,7 @@ gateProfileWith distance = record {
   rules = gateRefusal distance;
 }
 
--- those that the bench reads and writes, and the most that it writes
+-- gates of the new form, and the most of them
 abbrev pub gateProfile : Profile
 gateProfile = gateProfileWith distanceWidth
 

@@ -10,7 +10,7 @@ ghost use Rattle.gates.specs.Gates.{gateProfile, gateBits, bitsWith, hea
 
 pub const GATE_TYPE: u32 = 3;
 
-// The width of the distance, and the most gates, in the sub-packets that the bench reads and writes.
+// The width of the distance, and the most gates, in the new form.
 pub const DISTANCE_WIDTH: u8 = 15;
 
 pub const MOST_GATES: usize = 28;

@@ -50,7 +50,7 @@ stretch-within b at end a e he ha = of (decLt at e) (decLt end (length b))
     of (no l) (yes m) = empty-past b a e (omega arith) ∙ sym (empty-past b at end (omega arith))
     of (no l) (no m) = empty-past b a e (omega arith) ∙ sym (stretch-past b at end (omega arith))
 
-pub stretch-length : (b : List ℕ) (a e : ℕ) → e ≤ length b → length (stretch b a e) ≡ e - a
+stretch-length : (b : List ℕ) (a e : ℕ) → e ≤ length b → length (stretch b a e) ≡ e - a
 unfolding stretch
 stretch-length b a e h = length-take-le (e - a) (drop a b) (rw length-drop (omega arith))
 

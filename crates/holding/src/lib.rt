@@ -6,7 +6,7 @@ ghost use Prim.Native.Nat.{_+_, _≤_};
 ghost use lib.ListN.{length, take, drop};
 ghost use Rattle.holding.specs.Held.{heldBytes, heldAt, nothingHeld, behindBy, isEnd, gotBy, ReadOn, IsReady};
 
-// The bytes of the buffer from `at` up to `end`. Once a read has given nothing the input has ended, unless that read failed.
+// The bytes of the buffer from `at` up to `end`. The input has ended once a read has given nothing, and failed where that read did.
 pub struct Held {
     pub at: usize,
     pub end: usize,

@@ -2,7 +2,6 @@
 use Prim.Native.Nat.{ℕ, _*_}
 use mathlib.Core.Path.{_≡_, sym, ap, ap₂, _∙_}
 use mathlib.Core.List.{List}
-use native.Mathlib.Omega.{arith}
 use Rattle.framing.specs.Refusals.{orElse}
 use Rattle.framing.proofs.RefusalLaws.{same-number, next, ends}
 use Rattle.profiles.specs.Profiles.{Profile, countOf, rulesRefusal}

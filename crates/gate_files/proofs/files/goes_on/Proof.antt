@@ -1,5 +1,4 @@
 -- `gate_files::files::goes_on` meets its contract.
-use borrow.Author.Needs.{needs}
 use borrow.Author.Tests.{not-true, not-false}
 use Rattle.gate_files.specs.Turns.{goesOn}
 use Rattle.gate_files.proofs.files.goes_on.Statement.{statement}

@@ -23,13 +23,13 @@ rest-eq c = ap (λ (u : ℕ). c .before .args .metres % u) (unit c)
 returns : tie.Need-returns
 unfolding distanceRefusal
 returns c = let known = c .before .before .before in
-    c .no-other-form .ensures ∙ below 0 (known .before .args .metres % layoutOf (known .before .args .to) .unit) _ (omega (arith, c .before .if1 .taken, rest-eq known))
+    c .distance-stuck .ensures ∙ below 0 (known .before .args .metres % layoutOf (known .before .args .to) .unit) _ (omega (arith, c .before .if1 .taken, rest-eq known))
 
 returns-2 : tie.Need-returns-2
 unfolding distanceRefusal
 returns-2 c = let first = c .before .before .before in
     let known = first .before .before in
-    c .no-other-form2 .ensures
+    c .distance-stuck2 .ensures
     ∙ not-below 0 (known .before .args .metres % layoutOf (known .before .args .to) .unit) _ _ (omega (arith, first .if1 .left, rest-eq known))
     (last-below (layoutOf (known .before .args .to) .farthest) (known .before .args .metres) _ (omega (arith, c .before .if2 .taken, farthest known)))
 
