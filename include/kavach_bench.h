@@ -295,6 +295,13 @@ typedef struct kb_step_answer {
  * Refused: 17 a mode not 1 to 13, flags not 91 bytes, or a flag above 1. */
 kb_step_answer kb_next_mode(uint32_t mode, const uint8_t *flags, size_t flags_len);
 
+/* The same step as it is read on paper (document 01, Modes), for whoever wants to argue about one: all 80 transitions one after
+ * another, in the paper's order, with the best so far kept of those that leave the mode and are open. One that ties with the
+ * best so far sets the tie mark, and the lower target stays; a better one clears the mark. For every mode and any flags the
+ * answer is kb_next_mode's. Changes nothing.
+ * Refused: 17 a mode not 1 to 13, flags not 91 bytes, or a flag above 1. */
+kb_step_answer kb_next_mode_plain(uint32_t mode, const uint8_t *flags, size_t flags_len);
+
 /* ---- A session: start and the nine operations ----
  * Each changes the lent session where it is accepted, and no byte of it where it is refused. Each accepted operation but
  * kb_step_back is one entry that a step back can undo; the latest 128 are kept. 34 comes before the reasons that are listed. */

@@ -17,8 +17,8 @@
 enum kind {
     START, REQUEST, RELEASE, FLAGS, POSITION, AUTHORITY, DANGER, SOS, CLEAR, STEP_BACK,
     COUNTER, KEPT, IS_TAKEN, END, TRAIN,
-    FRAME, READ_GATES, WRITE_GATES, GATES_FORWARD, GATES_BACK, READ_TURNOUTS, WRITE_TURNOUTS, FRAME_AGE, NEXT_MODE, SESSION_SIZE,
-    RUN_RECORD, LONGEST_RECORD,
+    FRAME, READ_GATES, WRITE_GATES, GATES_FORWARD, GATES_BACK, READ_TURNOUTS, WRITE_TURNOUTS, FRAME_AGE, NEXT_MODE, NEXT_MODE_PLAIN,
+    SESSION_SIZE, RUN_RECORD, LONGEST_RECORD,
     FILL = 30, /* the session's bytes are those given */
     POKE = 31, /* byte n[0] of the session is n[1] */
     TURNS = 32 /* a request of loco n[0] for n[1] bytes and the release of what it got, n[2] times; the last request's answer */
@@ -219,6 +219,7 @@ static void run(const struct call *c, const uint8_t *given, uint8_t *output)
     case WRITE_TURNOUTS: put_turnouts_written(kb_write_turnouts(given, c->given, output, c->room)); break;
     case FRAME_AGE: put_age(kb_frame_age(c->n[0], c->n[1])); break;
     case NEXT_MODE: put_step(kb_next_mode(c->n[0], given, c->given)); break;
+    case NEXT_MODE_PLAIN: put_step(kb_next_mode_plain(c->n[0], given, c->given)); break;
     case SESSION_SIZE: reply.words[0] = word(kb_session_size()); break;
     case LONGEST_RECORD: reply.words[0] = word(kb_longest_record()); break;
     case FILL: memcpy(session_end - KB_SESSION_SIZE, given, KB_SESSION_SIZE); break;

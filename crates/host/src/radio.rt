@@ -1,5 +1,5 @@
 // What needs no session: a sub-packet's frame, gates and turnouts read and written, gates moved between their two forms, the age of a frame, and the
-// mode step.
+// mode step by either engine.
 use clock::FrameAge;
 use gate_moving::GatesMoved;
 use gates::forms::Form;
@@ -9,6 +9,7 @@ use profiles::EntriesWritten;
 ghost use mathlib.Core.Path.{_≡_};
 ghost use Rattle.clock.specs.Age.{frameAge};
 ghost use Rattle.modes.specs.Next.{nextStep};
+ghost use Rattle.modes.specs.Plain.{plainStep};
 ghost use Rattle.profiles.specs.Reading.{readAnswer, readInto};
 ghost use Rattle.profiles.specs.Writing.{writeAnswer, writeInto};
 ghost use Rattle.gates.specs.Gates.{gateProfile, mostGates};
@@ -101,4 +102,12 @@ pub extern "C" fn kb_next_mode(mode: u32, flags: &[u8]) -> Step
     ensures { λ r. ⌜ r ≡ nextStep mode (now (flags .entry)) ⌝ }
 {
     modes::next_mode(mode, flags)
+}
+
+// The same step by the plain engine.
+#[no_mangle]
+pub extern "C" fn kb_next_mode_plain(mode: u32, flags: &[u8]) -> Step
+    ensures { λ r. ⌜ r ≡ plainStep mode (now (flags .entry)) ⌝ }
+{
+    modes::plain::next_mode(mode, flags)
 }

@@ -4,3 +4,5 @@ pub mod Choosing
 pub mod Walking
 pub mod Stepping
 pub mod Laws
+pub mod Passing
+pub mod Agreement

@@ -1,3 +1,4 @@
 pub mod Flags
 pub mod Next
 pub mod Kept
+pub mod Plain

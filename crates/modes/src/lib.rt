@@ -1,5 +1,6 @@
 // The mode step (document 01, "Modes"): of the open transitions of a mode, the one of the best priority, by the lowest target.
 mod flags;
+pub mod plain;
 mod widening;
 
 use transitions::Transition;

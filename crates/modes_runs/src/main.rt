@@ -1,5 +1,7 @@
-// Prints the mode step of every mode for no flags, for each single flag and for all flags set, some steps with two flags, steps
-// that are refused, and frame ages. A line is what was asked, the answer's number and its values.
+// Prints the mode step of every mode for no flags, for each single flag and for all flags set, some steps with two and three flags, steps
+// that are refused, and frame ages. A line is what was asked, the answer's number and its values; of a step by the engine in use, then by
+// the plain one.
+use modes::Step;
 use transitions::names::*;
 ghost use mathlib.Core.Path.{_≡_};
 ghost use lib.ListN.{length};
@@ -39,13 +41,17 @@ fn single(n: usize) -> [u8; FLAGS]
     with([0; FLAGS], n)
 }
 
-// The numbers of a step, as the rest of a line.
-fn step(mode: u32, flags: &[u8]) {
-    let s = modes::next_mode(mode, flags);
+fn told(s: Step) {
     number(s.answer);
     number(s.mode);
     number(s.priority);
     number(s.tie);
+}
+
+// The numbers of a step by either engine, as the rest of a line.
+fn step(mode: u32, flags: &[u8]) {
+    told(modes::next_mode(mode, flags));
+    told(modes::plain::next_mode(mode, flags));
     text(b"\n");
 }
 
@@ -92,6 +98,48 @@ fn pairs() {
     two(OS, 71, 58);
     two(PT, 86, 58);
     two(SB, 77, 60);
+}
+
+// The step with three conditions set.
+fn three(mode: u32, a: u32, b: u32, c: u32) {
+    text(b"three");
+    number(mode);
+    number(a);
+    number(b);
+    number(c);
+    step(
+        mode,
+        &with(with(single(a as usize), b as usize), c as usize),
+    );
+}
+
+// A tie and then a better one, which clears the mark: each mode and priority that can tie.
+fn ties_cleared() {
+    three(SB, 60, 62, 2);
+    three(SB, 60, 62, 5);
+    three(SB, 61, 53, 5);
+    three(SR, 45, 56, 53);
+    three(LS, 17, 90, 53);
+    three(LS, 58, 56, 53);
+    three(FS, 71, 76, 69);
+    three(FS, 58, 56, 53);
+    three(OS, 71, 58, 53);
+    three(PT, 86, 58, 5);
+}
+
+// A better one between the two that share a priority, and before them; a worse one behind a tie, and before it; three that tie; two that
+// tie, of which one is open by both its conditions.
+fn ties_among_others() {
+    three(SB, 60, 62, 61);
+    three(OS, 71, 58, 69);
+    three(FS, 71, 76, 17);
+    three(FS, 71, 76, 58);
+    three(LS, 17, 90, 58);
+    three(SR, 45, 56, 87);
+    three(SB, 61, 53, 60);
+    three(SB, 60, 62, 63);
+    three(OS, 71, 58, 56);
+    three(SB, 77, 60, 62);
 }
 
 // Numbers that are no mode, then flags that are too few, too many or above 1.
@@ -176,6 +224,8 @@ fn every_mode() {
 fn main() {
     every_mode();
     pairs();
+    ties_cleared();
+    ties_among_others();
     refusals();
     ages();
 }

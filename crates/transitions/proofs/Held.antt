@@ -1,17 +1,19 @@
 -- How the code holds the table: each transition by its bytes, those of a mode together.
 use mathlib.Core.Path.{_≡_, refl, ap, _∙_, sym}
-use mathlib.Core.Bool.{true}
+use mathlib.Core.Bool.{Bool, true, false, _&&_}
 use mathlib.Core.List.{List, [], _∷_, map}
+use mathlib.Core.Logic.{⊎-elim}
 use Prim.Native.Nat.{ℕ, zero, suc, _+_, _≤_, _<_}
 use native.Mathlib.Numerals.{add-one}
 use native.Mathlib.Omega.{arith}
-use lib.Dec.{ltb}
-use lib.ListN.{length, getD, List·getD-map}
+use lib.Dec.{leb, ltb}
+use lib.ListN.{length, getD, length-map, List·getD-map, List·getD-eq-default}
 use lib.Seq.{slice}
-use borrow.Author.Tests.{lt-ltb, ltb-true}
+use borrow.Author.Tests.{leb-true, lt-ltb, le-ltb, ltb-true, eq-eqb, ne-eqb}
 use Rattle.transitions.specs.Names.{IS}
 use Rattle.transitions.specs.Table.{Transition, transitionCount, table, those, leavesFrom}
-use Rattle.transitions.specs.Held.{transitionBytes, bytesOf, tableBytes, firstOf, stated}
+use Rattle.transitions.specs.Held.{transitionBytes, bytesOf, tableBytes, firstOf, isFrom, stated}
+use Rattle.numbers.proofs.Logic.{both, lt-or-le}
 use Rattle.transitions.proofs.Members.{more-pass, no-more}
 use Rattle.transitions.proofs.Checked.{table-checked}
 
@@ -98,14 +100,14 @@ nowhere = record { leaves = 0; target = 0; conditions = []; priority = 0 }
 abbrev pub transitionAt : ℕ → Transition
 transitionAt t = getD table t nowhere
 
-map-at : (f : Transition → List ℕ) (xs : List Transition) (t : ℕ) → t < length xs → getD (map f xs) t [] ≡ f (getD xs t nowhere)
-map-at f [] t h = absurd (omega arith)
-map-at f (x ∷ xs) zero h = refl
-map-at f (x ∷ xs) (suc t) h = map-at f xs t (omega arith)
+map-at : {B : Type 0} (f : Transition → B) (d : B) (xs : List Transition) (t : ℕ) → t < length xs → getD (map f xs) t d ≡ f (getD xs t nowhere)
+map-at f d [] t h = absurd (omega arith)
+map-at f d (x ∷ xs) zero h = refl
+map-at f d (x ∷ xs) (suc t) h = map-at f d xs t (omega arith)
 
 pub bytes-at : (t : ℕ) → t < transitionCount → getD tableBytes t [] ≡ bytesOf (transitionAt t)
 unfolding tableBytes
-bytes-at t h = map-at bytesOf table t (omega (arith, table-checked .eighty))
+bytes-at t h = map-at bytesOf [] table t (omega (arith, table-checked .eighty))
 
 -- a transition's bytes are so many, and state its conditions
 all-wide : map (λ (a : Transition). length (bytesOf a)) table ≡ map (λ _. transitionBytes) table
@@ -121,3 +123,61 @@ all-stated = refl
 
 pub stated-at : (t : ℕ) → stated (bytesOf (transitionAt t)) ≡ transitionAt t .conditions
 stated-at = same-at (λ a. stated (bytesOf a)) (λ a. a .conditions) table nowhere all-stated refl
+
+-- transition t stands among those of the mode that it leaves
+abbrev stands : ℕ → Bool
+stands t = leb (firstOf (transitionAt t .leaves)) t && ltb t (firstOf (suc (transitionAt t .leaves)))
+
+all-stand : map stands (numbers 0 transitionCount) ≡ map (λ _. true) (numbers 0 transitionCount)
+unfolding firstOf table
+all-stand = refl
+
+stands-none : stands 0 ≡ true
+unfolding firstOf table
+stands-none = refl
+
+stand : (t : ℕ) → t < transitionCount → (firstOf (transitionAt t .leaves) ≤ t) × (t < firstOf (transitionAt t .leaves + 1))
+stand t h =
+    let l = transitionAt t .leaves in
+    let n : getD (numbers 0 transitionCount) t 0 ≡ t = omega (arith, number-at 0 transitionCount t h) in
+    let e = ap stands (sym n) ∙ same-at stands (λ _. true) (numbers 0 transitionCount) 0 all-stand stands-none t in
+    let k = both (leb (firstOf l) t) (ltb t (firstOf (suc l))) e in
+    (leb-true (firstOf l) t (k .0), rw (add-one l) (ltb-true t (firstOf (suc l)) (k .1)))
+
+-- so transition t leaves mode m exactly where it stands from the first of m on and before the first of the next
+module _ (m t : ℕ) where
+  pub from-at : t < transitionCount → isFrom m t ≡ leavesFrom m (transitionAt t)
+  from-at h = map-at (leavesFrom m) false table t (omega (arith, table-checked .eighty))
+
+  leaves-other : t < transitionCount → (transitionAt t .leaves ≡ m → ⊥) → isFrom m t ≡ false
+  leaves-other h n = from-at h ∙ ne-eqb (transitionAt t .leaves) m n
+
+  pub from-before : t < firstOf m → isFrom m t ≡ false
+  from-before h =
+      let k : t < transitionCount = omega (arith, starts-in m) in
+      leaves-other k (λ e. omega (arith, ap firstOf e, stand t k .0))
+
+  behind : firstOf (m + 1) ≤ t → isFrom m t ≡ false
+  behind h =
+      ⊎-elim (λ k. leaves-other k (λ e. omega (arith, ap (λ n. firstOf (n + 1)) e, stand t k .1)))
+      (λ k. List·getD-eq-default (map (leavesFrom m) table) false {n = t} (omega (arith, length-map table (leavesFrom m), table-checked .eighty)))
+      (lt-or-le t transitionCount)
+
+  among : firstOf m ≤ t → t < firstOf (m + 1) → isFrom m t ≡ true
+  among h k =
+      let c : t < transitionCount = omega (arith, starts-in (m + 1)) in
+      let l = transitionAt t .leaves in
+      let s = stand t c in
+      from-at c
+      ∙ eq-eqb l m
+      (⊎-elim (λ low. absurd (omega (arith, starts-rise (l + 1) m (omega arith), s .1)))
+      (λ high. ⊎-elim (λ up. absurd (omega (arith, starts-rise (m + 1) l (omega arith), s .0))) (λ down. omega arith) (lt-or-le m l)) (lt-or-le l m))
+
+  pub from-start : firstOf m ≤ t → ltb t (firstOf (m + 1)) ≡ isFrom m t
+  from-start h =
+      ⊎-elim (λ k. lt-ltb t (firstOf (m + 1)) k ∙ sym (among h k)) (λ k. le-ltb t (firstOf (m + 1)) k ∙ sym (behind k))
+      (lt-or-le t (firstOf (m + 1)))
+
+  -- there is no mode above the last
+  pub from-none : IS < m → isFrom m t ≡ false
+  from-none h = ⊎-elim (λ k. from-before (omega (arith, start-behind m h))) (λ k. behind (omega (arith, starts-in (m + 1)))) (lt-or-le t transitionCount)

@@ -1,8 +1,8 @@
 -- How the code holds the table: each transition by its bytes, those of a mode together.
-use mathlib.Core.{Bool.cond, List.List, List.[], List._∷_, List._++_, List.map}
+use mathlib.Core.{Bool.Bool, Bool.false, Bool.cond, List.List, List.[], List._∷_, List._++_, List.map}
 use Prim.Native.Nat.{ℕ}
-use lib.{Dec.eqb, Dec.ltb, ListN.length, ListN.take, ListN.drop, ListN.replicate}
-use Rattle.transitions.specs.Table.{Transition, table, those}
+use lib.{Dec.eqb, Dec.ltb, ListN.length, ListN.getD, ListN.take, ListN.drop, ListN.replicate}
+use Rattle.transitions.specs.Table.{Transition, table, those, leavesFrom}
 
 abbrev pub transitionBytes : ℕ  -- so many bytes a transition takes
 transitionBytes = 11
@@ -18,6 +18,10 @@ tableBytes = map bytesOf table
 -- how many transitions stand before those of mode m: those that leave a lower mode
 unfoldable pub firstOf : ℕ → ℕ
 firstOf m = length (those (λ a. ltb (a .leaves) m) table)
+
+-- does transition t, counted from 0, leave mode m? No number above the last one's is that of a transition
+abbrev pub isFrom : ℕ → ℕ → Bool
+isFrom m t = getD (map (leavesFrom m) table) t false
 
 -- what stands before the first zero
 abbrev pub beforeZero : List ℕ → List ℕ

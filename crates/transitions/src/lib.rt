@@ -3,7 +3,7 @@ pub mod names;
 mod table;
 
 ghost use mathlib.Core.Path.{_≡_};
-ghost use Rattle.transitions.specs.Held.{tableBytes, firstOf};
+ghost use Rattle.transitions.specs.Held.{tableBytes, firstOf, isFrom};
 
 const COUNT: usize = 80;
 
@@ -35,4 +35,17 @@ pub fn first(mode: u32) -> usize
         return COUNT;
     }
     table::FIRST[mode as usize]
+}
+
+// Does a transition, counted from 0, leave the mode? Those of a mode stand from its first to the next mode's.
+pub fn leaves_from(mode: u32, transition: usize) -> bool
+    ensures { λ r. ⌜ r ≡ isFrom mode transition ⌝ }
+{
+    if names::IS < mode {
+        return false;
+    }
+    if transition < first(mode) {
+        return false;
+    }
+    transition < first(mode + 1)
 }

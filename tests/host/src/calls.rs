@@ -1,13 +1,15 @@
-//! The calls of a run: sessions of several plans, one after another, with calls that need no session in between.
+//! The calls of a run: a series of mode steps; then sessions of several plans, one after another, with calls that need no session in
+//! between.
 
 use crate::expected::{Bench, Expected};
+use crate::mode_steps;
 use crate::packets;
 use crate::random::Random;
 use crate::records;
 use crate::wire::{Call, Kind, LONGER, SESSION};
-use bench_model::modes::{FLAGS, TRANSITIONS};
 use bench_model::session::{Pair, Session, NONE, ROWS, SLOTS};
 use std::collections::VecDeque;
+use std::iter::once;
 
 const LAST_LOCATION: u32 = 524_287;
 const LAST_TICKET: u32 = 65_535;
@@ -72,19 +74,23 @@ impl Calls {
         };
         calls.next.push_back(Call::new(Kind::SessionSize, &[]));
         calls.next.push_back(Call::new(Kind::LongestRecord, &[]));
+        calls.next.extend(mode_steps::series());
         calls.next.push_back(Call::new(Kind::Start, &[]));
         calls
     }
 
-    /// The next call, and what the model says of it.
-    pub fn next(&mut self) -> (Call, Expected) {
+    /// The next call, and what the model says of it. A mode step is two calls, one of each engine, and no run ends between them.
+    pub fn next(&mut self) -> impl Iterator<Item = (Call, Expected)> + '_ {
         let call = match self.next.pop_front() {
             Some(call) => call,
             None => self.choose(),
         };
-        let expected = self.bench.expect(&call);
-        self.remember(&call, &expected);
-        (call, expected)
+        let plain = mode_steps::by_the_plain_engine(&call);
+        once(call).chain(plain).map(|call| {
+            let expected = self.bench.expect(&call);
+            self.remember(&call, &expected);
+            (call, expected)
+        })
     }
 
     fn remember(&mut self, call: &Call, expected: &Expected) {
@@ -328,33 +334,6 @@ impl Calls {
         let holder =
             (0..ROWS as u32).filter_map(|row| self.bench.session.train(row)).find(|train| train.ticket == name.ticket);
         let mode = holder.map_or(1, |train| train.mode);
-        flags_for(&mut self.random, mode)
+        mode_steps::flags_for(&mut self.random, mode)
     }
-}
-
-/// Flags for a mode step from a mode that may be none: they open transitions of the mode, mostly into modes that have a row class.
-pub fn flags_for(random: &mut Random, mode: u32) -> Vec<u8> {
-    let mut flags = vec![0; FLAGS];
-    let transitions = TRANSITIONS.get((mode as usize).wrapping_sub(1)).map_or(&[][..], |list| &list[..]);
-    let all = random.chance(20);
-    let wanted: Vec<u128> =
-        transitions.iter().filter(|t| all || (2..=8).contains(&t.target)).map(|t| t.conditions).collect();
-    for _ in 0..random.below(4) {
-        if wanted.is_empty() || random.chance(10) {
-            flags[random.below(FLAGS as u32) as usize] = 1;
-        } else {
-            let conditions = random.pick(&wanted);
-            let listed: Vec<usize> = (1..=FLAGS).filter(|n| conditions >> n & 1 == 1).collect();
-            flags[random.pick(&listed) - 1] = 1;
-        }
-    }
-    match random.below(25) {
-        0 => flags.clear(),
-        1 => flags.truncate(90),
-        2 => flags.push(0),
-        3 => flags[random.below(FLAGS as u32) as usize] = random.word() as u8,
-        4 => flags = random.bytes(FLAGS).iter().map(|byte| byte & 1).collect(),
-        _ => {}
-    }
-    flags
 }

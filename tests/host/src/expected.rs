@@ -153,7 +153,7 @@ fn without_session(call: &Call) -> Expected {
             let conditions = [age.fresh, age.stale, age.recent].map(u32::from);
             Expected::words(&[age.answer, age.age, conditions[0], conditions[1], conditions[2]])
         }
-        Kind::NextMode => match modes::step(a, &call.given) {
+        Kind::NextMode | Kind::NextModePlain => match modes::step(a, &call.given) {
             Ok(step) => Expected::words(&[0, step.mode, step.priority, step.tie]),
             Err(answer) => Expected::words(&[answer]),
         },

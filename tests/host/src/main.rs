@@ -1,4 +1,5 @@
-//! Drives the bench's archive with random and hostile calls, and compares every answer with the independent model:
+//! Drives the bench's archive with a series of mode steps, then with random and hostile calls, and compares every answer with the
+//! independent model:
 //!
 //!     bench_host SEED COUNT CALLER [ARGUMENTS]
 //!
@@ -12,6 +13,7 @@ mod calls;
 mod cases;
 mod expected;
 mod gates;
+mod mode_steps;
 mod moves;
 mod packets;
 mod random;
@@ -30,6 +32,7 @@ use calls::Calls;
 use cases::Case;
 use expected::Expected;
 use gates::{DISTANCE, JUDGED, OLD_DISTANCE};
+use mode_steps::Steps;
 use std::collections::{BTreeMap, BTreeSet};
 use std::io::{BufReader, Read, Write};
 use std::process::{ChildStdin, ChildStdout, Command, ExitCode, Stdio};
@@ -44,7 +47,8 @@ type Batch = Vec<(Call, Expected)>;
 
 /// Every answer number that a call can give. A run of a million calls or more must have seen each, must have called each function and must
 /// have met each place that a refused read of gates, one of turnouts, and a refused move of gates either way can tell, and each number of
-/// gates or turnouts that they can accept.
+/// gates or turnouts that they can accept. Both engines must have been asked the same mode steps, and each must have shown what
+/// `Steps::missing` looks for.
 const ANSWERS: [u32; 23] = [0, 1, 2, 3, 4, 5, 6, 10, 11, 12, 13, 14, 15, 16, 17, 18, 19, 20, 21, 22, 23, 24, 34];
 
 /// The numbers that the header defines besides the session's size are the model's, or those by which packets are damaged.
@@ -86,7 +90,10 @@ fn send(seed: u64, count: u64, mut caller: ChildStdin, compared: SyncSender<Batc
     let mut calls = Calls::new(seed, count);
     let mut made = 0;
     while made < count {
-        let batch: Batch = (0..BATCH).map(|_| calls.next()).collect();
+        let mut batch = Batch::new();
+        while batch.len() < BATCH {
+            batch.extend(calls.next());
+        }
         made += batch.iter().filter(|(call, _)| call.kind.is_call()).count() as u64;
         let mut bytes = Vec::new();
         for (n, (call, expected)) in batch.iter().enumerate() {
@@ -146,6 +153,8 @@ struct Seen {
     turnouts: Reads,
     forward: Reads,
     back: Reads,
+    steps: Steps,
+    plain_steps: Steps,
     /// Framings that were refused with a place that is not 0.
     placed_frames: u64,
     answers: BTreeMap<u32, u64>,
@@ -164,7 +173,14 @@ impl Seen {
         let most_turnouts = model_turnouts::MOST_TURNOUTS as u32;
         let turnouts = self.turnouts.missing("read of turnouts", model_turnouts::places(), most_turnouts);
         let frame = (self.placed_frames == 0).then(|| "no framing was refused with a place that is not 0".into());
-        answer.or(kind).or(gates).or(forward).or(back).or(turnouts).or(frame)
+        let steps = self.engines().into_iter().find_map(|(engine, steps)| steps.missing(engine));
+        let other = (self.steps != self.plain_steps).then(|| "the engines were asked different mode steps".into());
+        answer.or(kind).or(gates).or(forward).or(back).or(turnouts).or(frame).or(steps).or(other)
+    }
+
+    /// What the steps by each engine have shown.
+    fn engines(&self) -> [(&str, &Steps); 2] {
+        [("the engine in use", &self.steps), ("the plain engine", &self.plain_steps)]
     }
 
     fn note(&mut self, call: &Call, expected: &Expected, reply: &Reply) {
@@ -189,6 +205,8 @@ impl Seen {
             Kind::GatesForward => self.forward.note(call, reply),
             Kind::GatesBack => self.back.note(call, reply),
             Kind::ReadTurnouts => self.turnouts.note(call, reply),
+            Kind::NextMode => self.steps.note(call, reply),
+            Kind::NextModePlain => self.plain_steps.note(call, reply),
             _ => {}
         }
     }
@@ -303,6 +321,7 @@ fn run_random(seed: u64, count: u64, command: &[String]) -> Result<(), String> {
     );
     println!("host: {} gate reads and {} turnout reads of damaged packets", seen.gates.damaged, seen.turnouts.damaged);
     print_moves(&seen.forward, &seen.back);
+    seen.engines().into_iter().for_each(|(engine, steps)| print_steps(engine, steps));
     println!(
         "host: {} calls tried with seed {seed}, {} of them on foreign sessions: no difference",
         seen.calls, seen.foreign
@@ -314,6 +333,16 @@ fn print_moves(forward: &Reads, back: &Reads) {
     let (placed, damaged) = (forward.placed + back.placed, forward.damaged + back.damaged);
     println!("host: {} moves of gates, {} forward and {} back", forward.calls + back.calls, forward.calls, back.calls);
     println!("host: {placed} of the moves refused with a place that is not 0, {damaged} of damaged packets");
+}
+
+fn print_steps(engine: &str, steps: &Steps) {
+    let Steps { calls, ties, singles, pairs, larger, .. } = steps;
+    println!(
+        "host: {calls} mode steps by {engine}, {ties} of them ties; {} different ones with a single flag, {} with two flags that \
+         open two transitions, and {larger} steps with more flags",
+        singles.len(),
+        pairs.len()
+    );
 }
 
 fn main() -> ExitCode {

@@ -1,9 +1,8 @@
 //! Calls that need no session: packets that are sound, damaged, cut and random, mode steps and frame ages.
 
-use crate::calls::flags_for;
 use crate::random::Random;
 use crate::wire::{Call, Kind};
-use crate::{gates, moves, turnouts};
+use crate::{gates, mode_steps, moves, turnouts};
 use bench_model::packets::{COUNT, GATE_BYTES, LENGTH};
 use bench_model::turnouts::{MOST_TURNOUTS, TURNOUT_BYTES};
 
@@ -22,10 +21,7 @@ pub fn call(random: &mut Random) -> Call {
         10 => write(random, Kind::WriteTurnouts, turnouts::list, turnouts::PACKET),
         11 => frame_age(random),
         12..=21 => moves::call(random),
-        _ => {
-            let mode = if random.chance(95) { random.from(1, 13) } else { random.number() };
-            Call::new(Kind::NextMode, &[mode]).with(flags_for(random, mode))
-        }
+        _ => mode_steps::call(random),
     }
 }
 

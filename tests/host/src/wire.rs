@@ -39,6 +39,7 @@ pub enum Kind {
     WriteTurnouts,
     FrameAge,
     NextMode,
+    NextModePlain,
     SessionSize,
     RunRecord,
     LongestRecord,

@@ -1,6 +1,7 @@
 //! The mode step (document 000, A1.4), from document 01's thirteen lines.
 
 use crate::answers::OUT_OF_RANGE;
+use std::collections::BTreeSet;
 use std::sync::LazyLock;
 
 pub const FLAGS: usize = 91;
@@ -65,6 +66,16 @@ fn transition(text: &str) -> Transition {
         priority: priority.parse().expect("a priority"),
         conditions: bits.fold(0, |all, bit| all | bit),
     }
+}
+
+/// Every mode with a priority that two or more of its transitions share. It is for programs that say which ties they have met.
+pub fn ties() -> BTreeSet<(u32, u32)> {
+    let mut ties = BTreeSet::new();
+    for (mode, leaving) in (1..).zip(TRANSITIONS.iter()) {
+        let mut met = BTreeSet::new();
+        ties.extend(leaving.iter().filter(|t| !met.insert(t.priority)).map(|t| (mode, t.priority)));
+    }
+    ties
 }
 
 #[derive(Clone, Copy, PartialEq, Eq, Debug)]

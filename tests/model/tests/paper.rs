@@ -2,6 +2,7 @@
 
 use bench_model::session::{Answer, Pair, Session, NONE};
 use bench_model::{clock, modes, old_gates, packets, recording, sos, turnouts};
+use std::collections::BTreeSet;
 
 fn accepted(numbers: [u32; 3]) -> Answer {
     Answer { answer: 0, numbers }
@@ -955,14 +956,40 @@ fn eighty_transitions() {
 }
 
 #[test]
+fn priorities_that_transitions_share() {
+    let shared = [("SB", 3), ("SB", 4), ("SR", 5), ("LS", 5), ("LS", 7), ("FS", 7), ("FS", 8), ("OS", 7), ("PT", 5)];
+    assert_eq!(modes::ties(), BTreeSet::from(shared.map(|(mode, priority)| (modes::number(mode), priority))));
+}
+
+#[test]
 fn mode_steps() {
     assert_eq!(step("FS", &[71, 76]), (3, 7, 1));
     assert_eq!(step("FS", &[69, 2]), (13, 1, 0));
     assert_eq!(step("TR", &[7]), (7, 0, 0));
     assert_eq!(step("RV", &[35]), (1, 4, 0));
+    assert_eq!(step("SB", &[77, 60]), (2, 4, 0));
+    assert_eq!(step("FS", &[71, 76, 58]), (3, 7, 1));
+    assert_eq!(step("FS", &[71, 76, 69]), (7, 4, 0));
+    assert_eq!(step("OS", &[71, 58, 56]), (5, 7, 1));
     assert_eq!(modes::step(14, &flags(&[])), Err(17));
     assert_eq!(modes::step(1, &[0; 90]), Err(17));
     assert_eq!(modes::step(1, &[2; 91]), Err(17));
+}
+
+/// The model keeps the best so far, as T-09's engine does. Here its steps are held to the rule as document 01 says it.
+#[test]
+fn the_best_so_far_is_the_best_of_all() {
+    let mut chance = Chance(4);
+    for round in 0..13 * 20_000 {
+        let (mode, percent) = (round % 13 + 1, [2, 5, 20][round % 3]);
+        let set: Vec<usize> = (1..=91).filter(|_| chance.below(100) < percent).collect();
+        let open = modes::TRANSITIONS[mode - 1].iter().filter(|t| set.iter().any(|n| t.conditions >> n & 1 == 1));
+        let best = open.clone().map(|t| t.priority).min();
+        let sharing: BTreeSet<u32> = open.filter(|t| Some(t.priority) == best).map(|t| t.target).collect();
+        let target = sharing.first().map_or(mode as u32, |&lowest| lowest);
+        let due = modes::Step { mode: target, priority: best.unwrap_or(0), tie: u32::from(sharing.len() > 1) };
+        assert_eq!(modes::step(mode as u32, &flags(&set)), Ok(due), "mode {mode}, conditions {set:?}");
+    }
 }
 
 #[test]

@@ -132,6 +132,7 @@ extern "C" {
     ) -> *mut TurnoutsWritten;
     fn kb_frame_age(to: *mut AgeAnswer, station: u32, onboard: u32) -> *mut AgeAnswer;
     fn kb_next_mode(mode: u32, flags: *const u8, flags_len: usize) -> Answer;
+    fn kb_next_mode_plain(mode: u32, flags: *const u8, flags_len: usize) -> Answer;
     fn kb_start(session: *mut u8, len: usize) -> Answer;
     fn kb_request(session: *mut u8, len: usize, loco: u32, bytes: u32) -> Answer;
     fn kb_release(session: *mut u8, len: usize, loco: u32, ticket: u32) -> Answer;
@@ -203,6 +204,10 @@ pub fn frame_age(station: u32, onboard: u32) -> AgeAnswer {
 
 pub fn next_mode(mode: u32, flags: &[u8]) -> Answer {
     unsafe { kb_next_mode(mode, flags.as_ptr(), flags.len()) }
+}
+
+pub fn next_mode_plain(mode: u32, flags: &[u8]) -> Answer {
+    unsafe { kb_next_mode_plain(mode, flags.as_ptr(), flags.len()) }
 }
 
 /// A session in bytes of its own.

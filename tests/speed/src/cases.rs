@@ -209,22 +209,28 @@ fn turnout_cases() -> Vec<Case> {
     reads.into_iter().chain(counts.map(|count| case("write", count, write))).collect()
 }
 
-fn plain_cases() -> Vec<Case> {
-    let step: Makers = (
-        |mode| {
-            let flags = flags(&[71, 76]);
-            alone(move || assert_eq!(archive::next_mode(black_box(mode), &flags).third, 1))
-        },
-        |mode| {
-            let flags = flags(&[71, 76]);
-            alone(move || assert_eq!(modes::step(black_box(mode), &flags).expect("a mode").tie, 1))
-        },
-    );
+/// A round that steps from a mode by an engine that tells the tie mark.
+fn stepping(mode: u32, tie: impl Fn(u32, &[u8]) -> u32 + 'static) -> Rounds {
+    let flags = flags(&[71, 76]);
+    alone(move || assert_eq!(tie(black_box(mode), &flags), 1))
+}
+
+fn mode_cases() -> Vec<Case> {
+    let in_use: Maker = |mode| stepping(mode, |mode, flags| archive::next_mode(mode, flags).third);
+    let plain: Maker = |mode| stepping(mode, |mode, flags| archive::next_mode_plain(mode, flags).third);
+    let model: Maker = |mode| stepping(mode, |mode, flags| modes::step(mode, flags).expect("a mode").tie);
+    vec![
+        Case::new("mode step, FS with 71 and 76", 4, (in_use, model)),
+        Case::new("mode step by the plain engine, FS with 71 and 76", 4, (plain, model)),
+    ]
+}
+
+fn age_case() -> Case {
     let age: Makers = (
         |station| alone(move || assert_eq!(archive::frame_age(black_box(station), 11).age, 4)),
         |station| alone(move || assert_eq!(clock::frame_age(black_box(station), 11).age, 4)),
     );
-    vec![Case::new("mode step, FS with 71 and 76", 4, step), Case::new("frame age", 20, age)]
+    Case::new("frame age", 20, age)
 }
 
 /// A train comes and goes beside so many others. Where the tickets are used up, another session takes over.
@@ -327,7 +333,8 @@ pub fn all() -> Vec<Case> {
     let mut cases = gate_cases();
     cases.extend(move_cases());
     cases.extend(turnout_cases());
-    cases.extend(plain_cases());
+    cases.extend(mode_cases());
+    cases.push(age_case());
     cases.extend(session_cases(1));
     cases.extend(session_cases(24));
     cases.extend(back_cases());
