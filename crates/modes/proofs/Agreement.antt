@@ -21,20 +21,20 @@ use Rattle.modes.proofs.Choosing.{walk-more}
 use Rattle.modes.proofs.Passing.{passed, bestOf, best-none, best-more, best-all}
 
 -- a transition that counts changes the best so far as it changes the choice
-told-weighed : (b : Best) (target p : ℕ) → told (weighed b target p) ≡ kept (told b) target p
+told-weighed : (b : Best) (target p : ℕ) → told 0 (weighed b target p) ≡ kept (told 0 b) target p
 unfolding isBetter weighed kept
 told-weighed b target p = go (eqb (b .priority) 0) (ltb p (b .priority)) (eqb p (b .priority))
   where
-    go : (x y z : Bool) → told (cond (x || y) (soFar target p 0) (cond z (soFar (min (b .mode) target) p 1) b)) ≡ cond x (accepted target p 0) (cond y (accepted target p 0) (cond z (accepted (min (b .mode) target) p 1) (told b)))
+    go : (x y z : Bool) → told 0 (cond (x || y) (soFar target p 0) (cond z (soFar (min (b .mode) target) p 1) b)) ≡ cond x (accepted target p 0) (cond y (accepted target p 0) (cond z (accepted (min (b .mode) target) p 1) (told 0 b)))
     go true y z = refl
     go false true z = refl
     go false false true = refl
     go false false false = refl
 
-told-passed : (m : ℕ) (fs : List ℕ) (b : Best) (a : Transition) → told (passed m fs b a) ≡ cond (counts m fs a) (kept (told b) (a .target) (a .priority)) (told b)
+told-passed : (m : ℕ) (fs : List ℕ) (b : Best) (a : Transition) → told 0 (passed m fs b a) ≡ cond (counts m fs a) (kept (told 0 b) (a .target) (a .priority)) (told 0 b)
 told-passed m fs b a = go (counts m fs a)
   where
-    go : (x : Bool) → told (cond x (weighed b (a .target) (a .priority)) b) ≡ cond x (kept (told b) (a .target) (a .priority)) (told b)
+    go : (x : Bool) → told 0 (cond x (weighed b (a .target) (a .priority)) b) ≡ cond x (kept (told 0 b) (a .target) (a .priority)) (told 0 b)
     go true = told-weighed b (a .target) (a .priority)
     go false = refl
 
@@ -52,7 +52,7 @@ module _ (m : ℕ) (fs : List ℕ) where
   abbrev choiceOf : ℕ → Step
   choiceOf t = choose m (those (counts m fs) (take t table))
 
-  choice-none : told (noneSoFar m) ≡ choiceOf 0
+  choice-none : told 0 (noneSoFar m) ≡ choiceOf 0
   unfolding choose
   choice-none = refl
 
@@ -62,12 +62,12 @@ module _ (m : ℕ) (fs : List ℕ) where
       (walk-more (counts m fs) m (take t table) (transitionAt t) (λ a k. table-checked .transitions a (of-slice 0 t table k) .priority .0))
 
   -- after each transition the best so far is that choice
-  best-is-choice : (t : ℕ) → t ≤ transitionCount → told (bestOf m fs (noneSoFar m) t) ≡ choiceOf t
-  best-is-choice zero h = ap told (best-none m fs (noneSoFar m)) ∙ choice-none
+  best-is-choice : (t : ℕ) → t ≤ transitionCount → told 0 (bestOf m fs (noneSoFar m) t) ≡ choiceOf t
+  best-is-choice zero h = ap (told 0) (best-none m fs (noneSoFar m)) ∙ choice-none
   best-is-choice (suc t) h =
       let a = transitionAt t in
       rw (sym (add-one t))
-      (ap told (best-more m fs (noneSoFar m) t h)
+      (ap (told 0) (best-more m fs (noneSoFar m) t h)
       ∙ told-passed m fs (bestOf m fs (noneSoFar m) t) a
       ∙ ap (λ (s : Step). cond (counts m fs a) (kept s (a .target) (a .priority)) s) (best-is-choice t (omega arith))
       ∙ sym (choice-more t h))
@@ -77,7 +77,7 @@ module _ (m : ℕ) (fs : List ℕ) where
   unfolding plainStep nextStep
   plain-is-next =
       ap (cond (refuses m fs) refused)
-      (ap told (sym (best-all m fs (noneSoFar m) transitionCount (omega arith)))
+      (ap (told 0) (sym (best-all m fs (noneSoFar m) transitionCount (omega arith)))
       ∙ best-is-choice transitionCount (omega arith)
       ∙ ap (λ (l : List Transition). choose m (those (counts m fs) l)) (take-all transitionCount table (omega (arith, table-checked .eighty)))
       ∙ sym (ap (choose m) (counted m fs table)))

@@ -1,23 +1,82 @@
--- The plain engine's walk, from transition to transition of the table.
+-- The plain engine's walk: over the conditions of a transition, and from transition to transition of the table.
 use mathlib.Core.Path.{_≡_, refl, ap, _∙_, sym}
-use mathlib.Core.Bool.{Bool, true, false, cond, _&&_}
-use mathlib.Core.List.{List, [], _∷_, _++_}
-use Prim.Native.Nat.{ℕ, zero, _+_, _≤_, _<_}
+use mathlib.Core.Bool.{Bool, true, false, cond, not, _&&_, _||_}
+use mathlib.Core.List.{List, [], _∷_, _++_, map}
+use Prim.Native.Nat.{ℕ, _+_, _≤_, _<_}
 use native.Mathlib.Numerals.{add-one}
 use native.Mathlib.Omega.{arith}
-use lib.ListN.{getD, take}
-use lib.Seq.{take-suc, take-all}
+use lib.Dec.{eqb}
+use lib.ListN.{length, getD, take, drop, drop-of-length-le}
+use lib.Seq.{take-suc, take-all, drop-cons}
 use Rattle.transitions.specs.Table.{Transition, transitionCount, table}
-use Rattle.transitions.specs.Held.{bytesOf, tableBytes, isFrom, stated}
+use Rattle.transitions.specs.Held.{bytesOf, tableBytes, isFrom}
 use Rattle.transitions.proofs.Checked.{table-checked}
-use Rattle.transitions.proofs.Held.{nowhere, transitionAt, bytes-at, stated-at, from-at}
+use Rattle.transitions.proofs.Held.{nowhere, transitionAt, map-at, bytes-at, nonzero, named-at, from-at}
 use Rattle.modes.specs.declared.plain.Best.{Best}
-use Rattle.modes.specs.Flags.{anySet}
+use Rattle.modes.specs.Flags.{isSet, anySet}
 use Rattle.modes.specs.Plain.{weighed, counts, walked}
+
+-- is a condition set, where 0 is none? And is one of these?
+abbrev pub isNamed : List ℕ → ℕ → Bool
+isNamed fs n = not (eqb n 0) && isSet fs n
+
+unfoldable pub anyNamed : List ℕ → List ℕ → Bool
+anyNamed fs [] = false
+anyNamed fs (n ∷ ns) = isNamed fs n || anyNamed fs ns
+
+named-set : (fs ns : List ℕ) → anyNamed fs ns ≡ anySet fs (nonzero ns)
+unfolding anyNamed
+named-set fs [] = refl
+named-set fs (n ∷ ns) = go (eqb n 0) (named-set fs ns)
+  where
+    go : (z : Bool) → anyNamed fs ns ≡ anySet fs (nonzero ns) → (not z && isSet fs n) || anyNamed fs ns ≡ anySet fs (cond z (nonzero ns) (n ∷ nonzero ns))
+    go true e = e
+    go false e = ap (λ (b : Bool). isSet fs n || b) e
+
+-- the byte at hand names a condition that is set, or it does not, or there is none
+module _ (fs bytes : List ℕ) (k : ℕ) where
+  pub named-here : k < length bytes → isNamed fs (getD bytes k 0) ≡ true → anyNamed fs (drop k bytes) ≡ true
+  unfolding anyNamed
+  named-here h e = rw (drop-cons bytes k 0 h, e)
+
+  pub named-next : k < length bytes → isNamed fs (getD bytes k 0) ≡ false → anyNamed fs (drop k bytes) ≡ anyNamed fs (drop (k + 1) bytes)
+  unfolding anyNamed
+  named-next h e = rw (drop-cons bytes k 0 h, e, add-one)
+
+  pub named-end : length bytes ≤ k → anyNamed fs (drop k bytes) ≡ false
+  unfolding anyNamed
+  named-end h = rw (drop-of-length-le bytes {i = k} h)
+
+-- does transition t count?
+abbrev pub countsAt : ℕ → List ℕ → ℕ → Bool
+countsAt m fs t = getD (map (counts m fs) table) t false
 
 -- the best so far, after transition a
 abbrev pub passed : ℕ → List ℕ → Best → Transition → Best
 passed m fs b a = cond (counts m fs a) (weighed b (a .target) (a .priority)) b
+
+-- transition t of the table that is lent: it leaves another mode, or is open as its bytes say; and is passed over, or weighed
+module _ (held : List (List ℕ)) (lent : held ≡ tableBytes) (t : ℕ) (h : t < transitionCount) (m : ℕ) (fs : List ℕ) where
+  bytes : getD held t [] ≡ bytesOf (transitionAt t)
+  bytes = ap (λ (l : List (List ℕ)). getD l t []) lent ∙ bytes-at t h
+
+  counts-at : countsAt m fs t ≡ counts m fs (transitionAt t)
+  counts-at = map-at (counts m fs) false table t (omega (arith, table-checked .eighty))
+
+  pub leaves-another : isFrom m t ≡ false → countsAt m fs t ≡ false
+  leaves-another e = counts-at ∙ rw (sym (from-at m t h) ∙ e)
+
+  pub leaves-this : isFrom m t ≡ true → countsAt m fs t ≡ anyNamed fs (drop 2 (getD held t []))
+  leaves-this e =
+      counts-at
+      ∙ rw (sym (from-at m t h) ∙ e)
+      (sym (ap (λ (l : List ℕ). anyNamed fs (drop 2 l)) bytes ∙ named-set fs (drop 2 (bytesOf (transitionAt t))) ∙ ap (anySet fs) (named-at t)))
+
+  pub passed-over : (b : Best) → countsAt m fs t ≡ false → passed m fs b (transitionAt t) ≡ b
+  passed-over b e = rw (sym counts-at ∙ e)
+
+  pub passed-by : (b : Best) → countsAt m fs t ≡ true → passed m fs b (transitionAt t) ≡ weighed b (getD (getD held t []) 0 0) (getD (getD held t []) 1 0)
+  passed-by b e = rw (sym counts-at ∙ e, bytes)
 
 -- a walk over one more
 walked-more : (m : ℕ) (fs : List ℕ) (b : Best) (xs : List Transition) (a : Transition) → walked m fs b (xs ++ (a ∷ [])) ≡ passed m fs (walked m fs b xs) a
@@ -39,22 +98,3 @@ module _ (m : ℕ) (fs : List ℕ) (b : Best) where
 
   pub best-all : (t : ℕ) → transitionCount ≤ t → bestOf m fs b t ≡ walked m fs b table
   best-all t h = ap (walked m fs b) (take-all t table (omega (arith, table-checked .eighty)))
-
--- transition t of the table that is lent: it leaves another mode, is shut, or counts
-module _ (m : ℕ) (fs : List ℕ) (b : Best) (held : List (List ℕ)) (lent : held ≡ tableBytes) (t : ℕ) (h : t < transitionCount) where
-  bytes : getD held t [] ≡ bytesOf (transitionAt t)
-  bytes = ap (λ (l : List (List ℕ)). getD l t []) lent ∙ bytes-at t h
-
-  tested : (x y : Bool) → isFrom m t ≡ x → anySet fs (stated (getD held t [])) ≡ y → counts m fs (transitionAt t) ≡ x && y
-  tested x y e f =
-      let g = ap (λ (l : List ℕ). anySet fs (stated l)) bytes ∙ ap (anySet fs) (stated-at t) in
-      rw (sym e, sym f, from-at m t h, g)
-
-  pub passed-other : isFrom m t ≡ false → passed m fs b (transitionAt t) ≡ b
-  passed-other e = rw (tested false (anySet fs (stated (getD held t []))) e refl)
-
-  pub passed-shut : isFrom m t ≡ true → anySet fs (stated (getD held t [])) ≡ false → passed m fs b (transitionAt t) ≡ b
-  passed-shut e f = rw (tested true false e f)
-
-  pub passed-open : isFrom m t ≡ true → anySet fs (stated (getD held t [])) ≡ true → passed m fs b (transitionAt t) ≡ weighed b (getD (getD held t []) 0 0) (getD (getD held t []) 1 0)
-  passed-open e f = rw (tested true true e f, bytes)

@@ -3,7 +3,7 @@ use mathlib.Core.{Bool.Bool, Bool.cond, Bool._&&_, Bool._||_, List.List, List.[]
 use Prim.Native.Nat.{ℕ, min}
 use lib.{Dec.eqb, Dec.ltb}
 use Rattle.transitions.specs.Table.{Transition, table, leavesFrom}
-use Rattle.modes.specs.{Next.isOpen, Next.accepted, Next.refuses, Next.refused, declared.Step.Step, declared.plain.Best.Best}
+use Rattle.modes.specs.{Next.isOpen, Next.refuses, Next.refused, declared.Step.Step, declared.plain.Best.Best}
 
 -- the best so far: mode, priority and tie mark
 abbrev pub soFar : ℕ → ℕ → ℕ → Best
@@ -30,10 +30,10 @@ unfoldable pub walked : ℕ → List ℕ → Best → List Transition → Best
 walked m flags b [] = b
 walked m flags b (a ∷ xs) = walked m flags (cond (counts m flags a) (weighed b (a .target) (a .priority)) b) xs
 
--- the best so far as an accepted step
-abbrev pub told : Best → Step
-told b = accepted (b .mode) (b .priority) (b .tie)
+-- the step that an answer and the best so far tell
+abbrev pub told : ℕ → Best → Step
+told answer b = record { answer = answer; mode = b .mode; priority = b .priority; tie = b .tie }
 
 -- the mode step by the walk over the whole table, for any number as the mode and any bytes as the flags
 unfoldable pub plainStep : ℕ → List ℕ → Step
-plainStep m flags = cond (refuses m flags) refused (told (walked m flags (noneSoFar m) table))
+plainStep m flags = cond (refuses m flags) refused (told 0 (walked m flags (noneSoFar m) table))

@@ -2,14 +2,18 @@
 // the paper, and keeps the best so far.
 use crate::OUT_OF_RANGE;
 use crate::Step;
-use crate::accept;
-use crate::is_open;
 use crate::is_refused;
+use crate::widening::condition;
 use crate::widening::number;
+use transitions::Transitions;
 use transitions::leaves_from;
-ghost use mathlib.Core.Path.{_≡_};
-ghost use Rattle.transitions.specs.Table.{table};
-ghost use Rattle.modes.specs.Plain.{soFar, noneSoFar, isBetter, weighed, walked, plainStep};
+ghost use mathlib.Core.{Path._≡_, Bool.false, Bool.not, Bool._&&_, List.map};
+ghost use Prim.Native.Nat.{_<_};
+ghost use lib.{Dec.eqb, ListN.getD};
+ghost use Rattle.transitions.specs.Table.{transitionCount, table};
+ghost use Rattle.transitions.specs.Held.{tableBytes};
+ghost use Rattle.modes.specs.Flags.{isSet};
+ghost use Rattle.modes.specs.Plain.{soFar, noneSoFar, isBetter, weighed, counts, walked, told, plainStep};
 
 // The best so far. A priority of 0 is none so far: then the mode stays.
 struct Best {
@@ -54,7 +58,36 @@ fn weigh(best: Best, target: u32, priority: u32) -> Best
     so_far(best.mode, priority, 1)
 }
 
-// The best of the whole table: a transition counts where it leaves the mode and is open.
+// Is a condition set? There is none of number 0: zeros fill up a transition.
+fn is_set(flags: &[u8], condition: usize) -> bool
+    ensures { λ r. ⌜ r ≡ not (eqb condition 0) && isSet (now (flags .entry)) condition ⌝ }
+{
+    if condition == 0 {
+        return false;
+    }
+    numbers::byte_at(flags, condition - 1) == 1
+}
+
+// Does transition t count? It does where it leaves the mode and one of its conditions is set.
+fn counts(mode: u32, flags: &[u8], held: &Transitions, t: usize) -> bool
+    requires { ⌜ (now held ≡ tableBytes) × (t < transitionCount) ⌝ }
+    ensures { λ r. ⌜ r ≡ getD (map (counts mode (now (flags .entry))) table) t false ⌝ }
+{
+    if !leaves_from(mode, t) {
+        return false;
+    }
+    let transition = held[t];
+    let mut k = transitions::CONDITIONS;
+    while k < transitions::BYTES {
+        if is_set(flags, condition(transition[k])) {
+            return true;
+        }
+        k += 1;
+    }
+    false
+}
+
+// The best of the whole table.
 fn walk(mode: u32, flags: &[u8]) -> Best
     ensures { λ r. ⌜ r ≡ walked mode (now (flags .entry)) (noneSoFar mode) table ⌝ }
 {
@@ -62,33 +95,36 @@ fn walk(mode: u32, flags: &[u8]) -> Best
     let mut best = so_far(mode, 0, 0);
     let mut t = 0;
     while t < held.len() {
-        let transition = held[t];
-        if leaves_from(mode, t) {
-            if is_open(flags, &transition) {
-                best = weigh(
-                    best,
-                    number(transition[transitions::TARGET]),
-                    number(transition[transitions::PRIORITY]),
-                );
-            }
+        if counts(mode, flags, &held, t) {
+            let transition = held[t];
+            best = weigh(
+                best,
+                number(transition[transitions::TARGET]),
+                number(transition[transitions::PRIORITY]),
+            );
         }
         t += 1;
     }
     best
 }
 
-// The same step as `next_mode` of the engine in use, found by the walk.
+fn tell(answer: u32, best: Best) -> Step
+    ensures { λ r. ⌜ r ≡ told answer best ⌝ }
+{
+    Step {
+        answer,
+        mode: best.mode,
+        priority: best.priority,
+        tie: best.tie,
+    }
+}
+
+// The same step as the one of the engine in use, found by the walk.
 pub fn next_mode(mode: u32, flags: &[u8]) -> Step
     ensures { λ r. ⌜ r ≡ plainStep mode (now (flags .entry)) ⌝ }
 {
     if is_refused(mode, flags) {
-        return Step {
-            answer: OUT_OF_RANGE,
-            mode: 0,
-            priority: 0,
-            tie: 0,
-        };
+        return tell(OUT_OF_RANGE, so_far(0, 0, 0));
     }
-    let best = walk(mode, flags);
-    accept(best.mode, best.priority, best.tie)
+    tell(0, walk(mode, flags))
 }

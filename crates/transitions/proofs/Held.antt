@@ -1,13 +1,13 @@
 -- How the code holds the table: each transition by its bytes, those of a mode together.
 use mathlib.Core.Path.{_≡_, refl, ap, _∙_, sym}
-use mathlib.Core.Bool.{Bool, true, false, _&&_}
+use mathlib.Core.Bool.{Bool, true, false, cond, _&&_}
 use mathlib.Core.List.{List, [], _∷_, map}
 use mathlib.Core.Logic.{⊎-elim}
 use Prim.Native.Nat.{ℕ, zero, suc, _+_, _≤_, _<_}
 use native.Mathlib.Numerals.{add-one}
 use native.Mathlib.Omega.{arith}
-use lib.Dec.{leb, ltb}
-use lib.ListN.{length, getD, length-map, List·getD-map, List·getD-eq-default}
+use lib.Dec.{eqb, leb, ltb}
+use lib.ListN.{length, getD, drop, length-map, List·getD-map, List·getD-eq-default}
 use lib.Seq.{slice}
 use borrow.Author.Tests.{leb-true, lt-ltb, le-ltb, ltb-true, eq-eqb, ne-eqb}
 use Rattle.transitions.specs.Names.{IS}
@@ -100,7 +100,7 @@ nowhere = record { leaves = 0; target = 0; conditions = []; priority = 0 }
 abbrev pub transitionAt : ℕ → Transition
 transitionAt t = getD table t nowhere
 
-map-at : {B : Type 0} (f : Transition → B) (d : B) (xs : List Transition) (t : ℕ) → t < length xs → getD (map f xs) t d ≡ f (getD xs t nowhere)
+pub map-at : {B : Type 0} (f : Transition → B) (d : B) (xs : List Transition) (t : ℕ) → t < length xs → getD (map f xs) t d ≡ f (getD xs t nowhere)
 map-at f d [] t h = absurd (omega arith)
 map-at f d (x ∷ xs) zero h = refl
 map-at f d (x ∷ xs) (suc t) h = map-at f d xs t (omega arith)
@@ -123,6 +123,18 @@ all-stated = refl
 
 pub stated-at : (t : ℕ) → stated (bytesOf (transitionAt t)) ≡ transitionAt t .conditions
 stated-at = same-at (λ a. stated (bytesOf a)) (λ a. a .conditions) table nowhere all-stated refl
+
+-- so do those of them behind target and priority that are not zero
+abbrev pub nonzero : List ℕ → List ℕ
+nonzero [] = []
+nonzero (n ∷ ns) = cond (eqb n 0) (nonzero ns) (n ∷ nonzero ns)
+
+all-named : map (λ (a : Transition). nonzero (drop 2 (bytesOf a))) table ≡ map (λ (a : Transition). a .conditions) table
+unfolding table
+all-named = refl
+
+pub named-at : (t : ℕ) → nonzero (drop 2 (bytesOf (transitionAt t))) ≡ transitionAt t .conditions
+named-at = same-at (λ a. nonzero (drop 2 (bytesOf a))) (λ a. a .conditions) table nowhere all-named refl
 
 -- transition t stands among those of the mode that it leaves
 abbrev stands : ℕ → Bool
