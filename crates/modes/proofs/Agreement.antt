@@ -1,7 +1,7 @@
 -- Both engines give the same step: for every number as the mode and any bytes as the flags, refusals included.
 use mathlib.Core.Path.{_≡_, refl, ap, _∙_, sym}
 use mathlib.Core.Bool.{Bool, true, false, cond, _&&_, _||_}
-use mathlib.Core.List.{List, [], _∷_, _++_}
+use mathlib.Core.List.{List, [], _∷_}
 use Prim.Native.Nat.{ℕ, zero, suc, _+_, _≤_, _<_, min}
 use native.Mathlib.Numerals.{add-one}
 use native.Mathlib.Omega.{arith}
@@ -14,9 +14,9 @@ use Rattle.transitions.proofs.Checked.{table-checked}
 use Rattle.transitions.proofs.Held.{nowhere, transitionAt}
 use Rattle.modes.specs.declared.Step.{Step}
 use Rattle.modes.specs.declared.plain.Best.{Best}
-use Rattle.modes.specs.Next.{isOpen, opens, accepted, choose, refuses, refused, nextStep}
+use Rattle.modes.specs.Next.{isOpen, accepted, choose, refuses, refused, nextStep}
 use Rattle.modes.specs.Kept.{kept}
-use Rattle.modes.specs.Plain.{soFar, noneSoFar, isBetter, weighed, counts, walked, told, plainStep}
+use Rattle.modes.specs.Plain.{soFar, noneSoFar, isBetter, weighed, counts, told, plainStep}
 use Rattle.modes.proofs.Choosing.{walk-more}
 use Rattle.modes.proofs.Passing.{passed, bestOf, best-none, best-more, best-all}
 

@@ -1,9 +1,6 @@
 -- `transitions::leaves_from` meets its contract, a case for each test.
-use mathlib.Core.Path.{_≡_, _∙_, sym}
-use Prim.Native.Nat.{_<_, _≤_}
-use native.Mathlib.Omega.{arith}
+use mathlib.Core.Path.{sym}
 use borrow.Author.Needs.{needs}
-use Rattle.transitions.specs.Held.{firstOf}
 use Rattle.transitions.proofs.Held.{from-none, from-before, from-start}
 use Rattle.transitions.proofs.leaves_from.Statement.{statement}
 use Rattle.transitions.proofs.leaves_from.Tie as tie
