@@ -24,6 +24,8 @@ for line in (pathlib.Path(__file__).parent / "mode_lines.txt").read_text(encodin
         conditions, priority = rest.split("/")
         leaving.append((int(priority), NUMBER[target], {int(c) for c in conditions.split(",")}))
 assert len(transitions) == 13 and sum(map(len, transitions.values())) == 80
+# Each line of the paper has its targets in rising order, so that the lowest target of a tie always comes first in a walk.
+assert all(line == sorted(line) for line in ([target for _, target, _ in leaving] for leaving in transitions.values()))
 
 
 def refused(mode, flags):
@@ -83,15 +85,14 @@ for m in range(1, 14):
 for name, a, b in [("FS", 71, 76), ("FS", 69, 2), ("SB", 60, 62), ("SR", 45, 56), ("LS", 17, 90), ("FS", 56, 58), ("OS", 71, 58),
                    ("PT", 86, 58), ("SB", 77, 60)]:
     print("two", NUMBER[name], a, b, *both(NUMBER[name], those(a, b)))
-# Each line of the paper has its targets in rising order, so that the lowest target of a tie always comes first in the walk.
 for name, a, b, c in [
         # a tie, then a better one, which clears the mark: each mode and priority that can tie
         ("SB", 60, 62, 2), ("SB", 60, 62, 5), ("SB", 61, 53, 5), ("SR", 45, 56, 53), ("LS", 17, 90, 53), ("LS", 58, 56, 53),
         ("FS", 71, 76, 69), ("FS", 58, 56, 53), ("OS", 71, 58, 53), ("PT", 86, 58, 5),
         # a better one between the two that share a priority, twice, and before them: no mark
         ("SB", 60, 62, 61), ("OS", 71, 58, 69), ("FS", 71, 76, 17),
-        # a worse one behind a tie, twice, and before it, twice: the mark stands
-        ("FS", 71, 76, 58), ("LS", 17, 90, 58), ("SR", 45, 56, 87), ("SB", 61, 53, 60),
+        # a worse one behind a tie, twice, before it, twice, and between the two that tie: the mark stands
+        ("FS", 71, 76, 58), ("LS", 17, 90, 58), ("SR", 45, 56, 87), ("SB", 61, 53, 60), ("SB", 61, 62, 53),
         # three that tie, twice; two that tie, of which one is open by both its conditions
         ("SB", 60, 62, 63), ("OS", 71, 58, 56), ("SB", 77, 60, 62)]:
     print("three", NUMBER[name], a, b, c, *both(NUMBER[name], those(a, b, c)))

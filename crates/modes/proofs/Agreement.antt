@@ -16,9 +16,9 @@ use Rattle.modes.specs.declared.Step.{Step}
 use Rattle.modes.specs.declared.plain.Best.{Best}
 use Rattle.modes.specs.Next.{isOpen, accepted, choose, refuses, refused, nextStep}
 use Rattle.modes.specs.Kept.{kept}
-use Rattle.modes.specs.Plain.{soFar, noneSoFar, isBetter, weighed, counts, told, plainStep}
+use Rattle.modes.specs.Plain.{soFar, noneSoFar, isBetter, weighed, counts, passed, told, plainStep}
 use Rattle.modes.proofs.Choosing.{walk-more}
-use Rattle.modes.proofs.Passing.{passed, bestOf, best-none, best-more, best-all}
+use Rattle.modes.proofs.Passing.{bestOf, best-none, best-more, best-all}
 
 -- a transition that counts changes the best so far as it changes the choice
 told-weighed : (b : Best) (target p : ℕ) → told 0 (weighed b target p) ≡ kept (told 0 b) target p
@@ -62,13 +62,13 @@ module _ (m : ℕ) (fs : List ℕ) where
       (walk-more (counts m fs) m (take t table) (transitionAt t) (λ a k. table-checked .transitions a (of-slice 0 t table k) .priority .0))
 
   -- after each transition the best so far is that choice
-  best-is-choice : (t : ℕ) → t ≤ transitionCount → told 0 (bestOf m fs (noneSoFar m) t) ≡ choiceOf t
-  best-is-choice zero h = ap (told 0) (best-none m fs (noneSoFar m)) ∙ choice-none
+  best-is-choice : (t : ℕ) → t ≤ transitionCount → told 0 (bestOf m fs t) ≡ choiceOf t
+  best-is-choice zero h = ap (told 0) (best-none m fs) ∙ choice-none
   best-is-choice (suc t) h =
       let a = transitionAt t in
       rw (sym (add-one t))
-      (ap (told 0) (best-more m fs (noneSoFar m) t h)
-      ∙ told-passed m fs (bestOf m fs (noneSoFar m) t) a
+      (ap (told 0) (best-more m fs t h)
+      ∙ told-passed m fs (bestOf m fs t) a
       ∙ ap (λ (s : Step). cond (counts m fs a) (kept s (a .target) (a .priority)) s) (best-is-choice t (omega arith))
       ∙ sym (choice-more t h))
 
@@ -77,7 +77,7 @@ module _ (m : ℕ) (fs : List ℕ) where
   unfolding plainStep nextStep
   plain-is-next =
       ap (cond (refuses m fs) refused)
-      (ap (told 0) (sym (best-all m fs (noneSoFar m) transitionCount (omega arith)))
+      (ap (told 0) (sym (best-all m fs transitionCount (omega arith)))
       ∙ best-is-choice transitionCount (omega arith)
       ∙ ap (λ (l : List Transition). choose m (those (counts m fs) l)) (take-all transitionCount table (omega (arith, table-checked .eighty)))
       ∙ sym (ap (choose m) (counted m fs table)))

@@ -9,12 +9,12 @@ use lib.Dec.{eqb}
 use lib.ListN.{length, getD, take, drop, drop-of-length-le}
 use lib.Seq.{take-suc, take-all, drop-cons}
 use Rattle.transitions.specs.Table.{Transition, transitionCount, table}
-use Rattle.transitions.specs.Held.{bytesOf, tableBytes, isFrom}
+use Rattle.transitions.specs.Held.{bytesOf, tableBytes, leavesAt}
 use Rattle.transitions.proofs.Checked.{table-checked}
 use Rattle.transitions.proofs.Held.{nowhere, transitionAt, map-at, bytes-at, nonzero, named-at, from-at}
 use Rattle.modes.specs.declared.plain.Best.{Best}
 use Rattle.modes.specs.Flags.{isSet, anySet}
-use Rattle.modes.specs.Plain.{weighed, counts, walked}
+use Rattle.modes.specs.Plain.{noneSoFar, weighed, counts, passed, walked}
 
 -- is a condition set, where 0 is none? And is one of these?
 abbrev pub isNamed : List ℕ → ℕ → Bool
@@ -51,10 +51,6 @@ module _ (fs bytes : List ℕ) (k : ℕ) where
 abbrev pub countsAt : ℕ → List ℕ → ℕ → Bool
 countsAt m fs t = getD (map (counts m fs) table) t false
 
--- the best so far, after transition a
-abbrev pub passed : ℕ → List ℕ → Best → Transition → Best
-passed m fs b a = cond (counts m fs a) (weighed b (a .target) (a .priority)) b
-
 -- transition t of the table that is lent: it leaves another mode, or is open as its bytes say; and is passed over, or weighed
 module _ (held : List (List ℕ)) (lent : held ≡ tableBytes) (t : ℕ) (h : t < transitionCount) (m : ℕ) (fs : List ℕ) where
   bytes : getD held t [] ≡ bytesOf (transitionAt t)
@@ -63,10 +59,10 @@ module _ (held : List (List ℕ)) (lent : held ≡ tableBytes) (t : ℕ) (h : t 
   counts-at : countsAt m fs t ≡ counts m fs (transitionAt t)
   counts-at = map-at (counts m fs) false table t (omega (arith, table-checked .eighty))
 
-  pub leaves-another : isFrom m t ≡ false → countsAt m fs t ≡ false
+  pub leaves-another : leavesAt m t ≡ false → countsAt m fs t ≡ false
   leaves-another e = counts-at ∙ rw (sym (from-at m t h) ∙ e)
 
-  pub leaves-this : isFrom m t ≡ true → countsAt m fs t ≡ anyNamed fs (drop 2 (getD held t []))
+  pub leaves-this : leavesAt m t ≡ true → countsAt m fs t ≡ anyNamed fs (drop 2 (getD held t []))
   leaves-this e =
       counts-at
       ∙ rw (sym (from-at m t h) ∙ e)
@@ -75,8 +71,8 @@ module _ (held : List (List ℕ)) (lent : held ≡ tableBytes) (t : ℕ) (h : t 
   pub passed-over : (b : Best) → countsAt m fs t ≡ false → passed m fs b (transitionAt t) ≡ b
   passed-over b e = rw (sym counts-at ∙ e)
 
-  pub passed-by : (b : Best) → countsAt m fs t ≡ true → passed m fs b (transitionAt t) ≡ weighed b (getD (getD held t []) 0 0) (getD (getD held t []) 1 0)
-  passed-by b e = rw (sym counts-at ∙ e, bytes)
+  pub passed-weighed : (b : Best) → countsAt m fs t ≡ true → passed m fs b (transitionAt t) ≡ weighed b (getD (getD held t []) 0 0) (getD (getD held t []) 1 0)
+  passed-weighed b e = rw (sym counts-at ∙ e, bytes)
 
 -- a walk over one more
 walked-more : (m : ℕ) (fs : List ℕ) (b : Best) (xs : List Transition) (a : Transition) → walked m fs b (xs ++ (a ∷ [])) ≡ passed m fs (walked m fs b xs) a
@@ -85,16 +81,16 @@ walked-more m fs b [] a = refl
 walked-more m fs b (x ∷ xs) a = walked-more m fs (passed m fs b x) xs a
 
 -- the best so far, after the first t transitions of the table
-abbrev pub bestOf : ℕ → List ℕ → Best → ℕ → Best
-bestOf m fs b t = walked m fs b (take t table)
+abbrev pub bestOf : ℕ → List ℕ → ℕ → Best
+bestOf m fs t = walked m fs (noneSoFar m) (take t table)
 
-module _ (m : ℕ) (fs : List ℕ) (b : Best) where
-  pub best-none : bestOf m fs b 0 ≡ b
+module _ (m : ℕ) (fs : List ℕ) where
+  pub best-none : bestOf m fs 0 ≡ noneSoFar m
   unfolding walked
   best-none = refl
 
-  pub best-more : (t : ℕ) → t < transitionCount → bestOf m fs b (t + 1) ≡ passed m fs (bestOf m fs b t) (transitionAt t)
-  best-more t h = rw (add-one, take-suc table t nowhere (omega (arith, table-checked .eighty))) (walked-more m fs b (take t table) (transitionAt t))
+  pub best-more : (t : ℕ) → t < transitionCount → bestOf m fs (t + 1) ≡ passed m fs (bestOf m fs t) (transitionAt t)
+  best-more t h = rw (add-one, take-suc table t nowhere (omega (arith, table-checked .eighty))) (walked-more m fs (noneSoFar m) (take t table) (transitionAt t))
 
-  pub best-all : (t : ℕ) → transitionCount ≤ t → bestOf m fs b t ≡ walked m fs b table
-  best-all t h = ap (walked m fs b) (take-all t table (omega (arith, table-checked .eighty)))
+  pub best-all : (t : ℕ) → transitionCount ≤ t → bestOf m fs t ≡ walked m fs (noneSoFar m) table
+  best-all t h = ap (walked m fs (noneSoFar m)) (take-all t table (omega (arith, table-checked .eighty)))

@@ -1,4 +1,4 @@
--- The mode step as it is read on paper (document 02, T-09): all transitions one after another, with the best so far.
+-- The mode step as it is read on paper (document 02, T-09): all transitions one after another, in the order of the paper, with the best so far.
 use mathlib.Core.{Bool.Bool, Bool.cond, Bool._&&_, Bool._||_, List.List, List.[], List._∷_}
 use Prim.Native.Nat.{ℕ, min}
 use lib.{Dec.eqb, Dec.ltb}
@@ -17,7 +17,8 @@ noneSoFar m = soFar m 0 0
 unfoldable pub isBetter : ℕ → Best → Bool
 isBetter p b = eqb (b .priority) 0 || ltb p (b .priority)
 
--- after one more transition that counts: a better one clears the mark; one that ties is judged by the lowest target, and sets it
+-- after one more transition that counts: a better one takes its place and clears the mark; one that ties leaves the lower target and sets the mark; a worse one
+-- changes nothing
 unfoldable pub weighed : Best → ℕ → ℕ → Best
 weighed b target p = cond (isBetter p b) (soFar target p 0) (cond (eqb p (b .priority)) (soFar (min (b .mode) target) p 1) b)
 
@@ -25,10 +26,14 @@ weighed b target p = cond (isBetter p b) (soFar target p 0) (cond (eqb p (b .pri
 abbrev pub counts : ℕ → List ℕ → Transition → Bool
 counts m flags a = leavesFrom m a && isOpen flags a
 
+-- the best so far, after one more transition: weighed where it counts, else as it was
+abbrev pub passed : ℕ → List ℕ → Best → Transition → Best
+passed m flags b a = cond (counts m flags a) (weighed b (a .target) (a .priority)) b
+
 -- the walk: the best so far, after these transitions, one after another
 unfoldable pub walked : ℕ → List ℕ → Best → List Transition → Best
 walked m flags b [] = b
-walked m flags b (a ∷ xs) = walked m flags (cond (counts m flags a) (weighed b (a .target) (a .priority)) b) xs
+walked m flags b (a ∷ xs) = walked m flags (passed m flags b a) xs
 
 -- the step that an answer and the best so far tell
 abbrev pub told : ℕ → Best → Step

@@ -32,7 +32,7 @@ fn so_far(mode: u32, priority: u32, tie: u32) -> Best
     }
 }
 
-// Is a priority better than that of the best so far? The smaller number is the better one.
+// Is a priority better than that of the best so far? Any is better than none; else the smaller number is the better one.
 fn is_better(priority: u32, best: Best) -> bool
     ensures { λ r. ⌜ r ≡ isBetter priority best ⌝ }
 {
@@ -87,7 +87,7 @@ fn counts(mode: u32, flags: &[u8], held: &Transitions, t: usize) -> bool
     false
 }
 
-// The best of the whole table.
+// The best so far, after the whole table.
 fn walk(mode: u32, flags: &[u8]) -> Best
     ensures { λ r. ⌜ r ≡ walked mode (now (flags .entry)) (noneSoFar mode) table ⌝ }
 {

@@ -41,6 +41,7 @@ fn single(n: usize) -> [u8; FLAGS]
     with([0; FLAGS], n)
 }
 
+// The numbers of a step.
 fn told(s: Step) {
     number(s.answer);
     number(s.mode);
@@ -48,7 +49,7 @@ fn told(s: Step) {
     number(s.tie);
 }
 
-// The numbers of a step by either engine, as the rest of a line.
+// A step by each engine, as the rest of a line.
 fn step(mode: u32, flags: &[u8]) {
     told(modes::next_mode(mode, flags));
     told(modes::plain::next_mode(mode, flags));
@@ -127,7 +128,8 @@ fn ties_cleared() {
     three(PT, 86, 58, 5);
 }
 
-// A better one between the two that share a priority, and before them; a worse one behind a tie, and before it; three that tie; two that
+// A better one between the two that share a priority, and before them; a worse one behind a tie, before it, and between the
+// two that tie; three that tie; two that
 // tie, of which one is open by both its conditions.
 fn ties_among_others() {
     three(SB, 60, 62, 61);
@@ -137,6 +139,7 @@ fn ties_among_others() {
     three(LS, 17, 90, 58);
     three(SR, 45, 56, 87);
     three(SB, 61, 53, 60);
+    three(SB, 61, 62, 53);
     three(SB, 60, 62, 63);
     three(OS, 71, 58, 56);
     three(SB, 77, 60, 62);

@@ -12,7 +12,7 @@ use lib.Seq.{slice}
 use borrow.Author.Tests.{leb-true, lt-ltb, le-ltb, ltb-true, eq-eqb, ne-eqb}
 use Rattle.transitions.specs.Names.{IS}
 use Rattle.transitions.specs.Table.{Transition, transitionCount, table, those, leavesFrom}
-use Rattle.transitions.specs.Held.{transitionBytes, bytesOf, tableBytes, firstOf, isFrom, stated}
+use Rattle.transitions.specs.Held.{transitionBytes, bytesOf, tableBytes, firstOf, leavesAt, stated}
 use Rattle.numbers.proofs.Logic.{both, lt-or-le}
 use Rattle.transitions.proofs.Members.{more-pass, no-more}
 use Rattle.transitions.proofs.Checked.{table-checked}
@@ -158,24 +158,24 @@ stand t h =
 
 -- so transition t leaves mode m exactly where it stands from the first of m on and before the first of the next
 module _ (m t : ℕ) where
-  pub from-at : t < transitionCount → isFrom m t ≡ leavesFrom m (transitionAt t)
+  pub from-at : t < transitionCount → leavesAt m t ≡ leavesFrom m (transitionAt t)
   from-at h = map-at (leavesFrom m) false table t (omega (arith, table-checked .eighty))
 
-  leaves-other : t < transitionCount → (transitionAt t .leaves ≡ m → ⊥) → isFrom m t ≡ false
+  leaves-other : t < transitionCount → (transitionAt t .leaves ≡ m → ⊥) → leavesAt m t ≡ false
   leaves-other h n = from-at h ∙ ne-eqb (transitionAt t .leaves) m n
 
-  pub from-before : t < firstOf m → isFrom m t ≡ false
+  pub from-before : t < firstOf m → leavesAt m t ≡ false
   from-before h =
       let k : t < transitionCount = omega (arith, starts-in m) in
       leaves-other k (λ e. omega (arith, ap firstOf e, stand t k .0))
 
-  behind : firstOf (m + 1) ≤ t → isFrom m t ≡ false
+  behind : firstOf (m + 1) ≤ t → leavesAt m t ≡ false
   behind h =
       ⊎-elim (λ k. leaves-other k (λ e. omega (arith, ap (λ n. firstOf (n + 1)) e, stand t k .1)))
       (λ k. List·getD-eq-default (map (leavesFrom m) table) false {n = t} (omega (arith, length-map table (leavesFrom m), table-checked .eighty)))
       (lt-or-le t transitionCount)
 
-  among : firstOf m ≤ t → t < firstOf (m + 1) → isFrom m t ≡ true
+  among : firstOf m ≤ t → t < firstOf (m + 1) → leavesAt m t ≡ true
   among h k =
       let c : t < transitionCount = omega (arith, starts-in (m + 1)) in
       let l = transitionAt t .leaves in
@@ -185,11 +185,11 @@ module _ (m t : ℕ) where
       (⊎-elim (λ low. absurd (omega (arith, starts-rise (l + 1) m (omega arith), s .1)))
       (λ high. ⊎-elim (λ up. absurd (omega (arith, starts-rise (m + 1) l (omega arith), s .0))) (λ down. omega arith) (lt-or-le m l)) (lt-or-le l m))
 
-  pub from-start : firstOf m ≤ t → ltb t (firstOf (m + 1)) ≡ isFrom m t
+  pub from-start : firstOf m ≤ t → ltb t (firstOf (m + 1)) ≡ leavesAt m t
   from-start h =
       ⊎-elim (λ k. lt-ltb t (firstOf (m + 1)) k ∙ sym (among h k)) (λ k. le-ltb t (firstOf (m + 1)) k ∙ sym (behind k))
       (lt-or-le t (firstOf (m + 1)))
 
   -- there is no mode above the last
-  pub from-none : IS < m → isFrom m t ≡ false
+  pub from-none : IS < m → leavesAt m t ≡ false
   from-none h = ⊎-elim (λ k. from-before (omega (arith, start-behind m h))) (λ k. behind (omega (arith, starts-in (m + 1)))) (lt-or-le t transitionCount)

@@ -19,9 +19,9 @@ tableBytes = map bytesOf table
 unfoldable pub firstOf : ℕ → ℕ
 firstOf m = length (those (λ a. ltb (a .leaves) m) table)
 
--- does transition t, counted from 0, leave mode m? No number above the last one's is that of a transition
-abbrev pub isFrom : ℕ → ℕ → Bool
-isFrom m t = getD (map (leavesFrom m) table) t false
+-- does transition t, counted from 0, leave mode m? There is none above the last
+abbrev pub leavesAt : ℕ → ℕ → Bool
+leavesAt m t = getD (map (leavesFrom m) table) t false
 
 -- what stands before the first zero
 abbrev pub beforeZero : List ℕ → List ℕ

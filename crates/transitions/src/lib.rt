@@ -3,7 +3,7 @@ pub mod names;
 mod table;
 
 ghost use mathlib.Core.Path.{_≡_};
-ghost use Rattle.transitions.specs.Held.{tableBytes, firstOf, isFrom};
+ghost use Rattle.transitions.specs.Held.{tableBytes, firstOf, leavesAt};
 
 const COUNT: usize = 80;
 
@@ -37,15 +37,16 @@ pub fn first(mode: u32) -> usize
     table::FIRST[mode as usize]
 }
 
-// Does a transition, counted from 0, leave the mode? Those of a mode stand from its first to the next mode's.
-pub fn leaves_from(mode: u32, transition: usize) -> bool
-    ensures { λ r. ⌜ r ≡ isFrom mode transition ⌝ }
+// Does transition t, counted from 0, leave the mode? Those of a mode stand from its first to the next mode's.
+pub fn leaves_from(mode: u32, t: usize) -> bool
+    ensures { λ r. ⌜ r ≡ leavesAt mode t ⌝ }
 {
+    // none leaves what is no mode, and behind a mode there is a next number
     if names::IS < mode {
         return false;
     }
-    if transition < first(mode) {
+    if t < first(mode) {
         return false;
     }
-    transition < first(mode + 1)
+    t < first(mode + 1)
 }

@@ -47,8 +47,7 @@ type Batch = Vec<(Call, Expected)>;
 
 /// Every answer number that a call can give. A run of a million calls or more must have seen each, must have called each function and must
 /// have met each place that a refused read of gates, one of turnouts, and a refused move of gates either way can tell, and each number of
-/// gates or turnouts that they can accept. Both engines must have been asked the same mode steps, and each must have shown what
-/// `Steps::missing` looks for.
+/// gates or turnouts that they can accept. Both engines must have shown the same, and each what `Steps::missing` looks for.
 const ANSWERS: [u32; 23] = [0, 1, 2, 3, 4, 5, 6, 10, 11, 12, 13, 14, 15, 16, 17, 18, 19, 20, 21, 22, 23, 24, 34];
 
 /// The numbers that the header defines besides the session's size are the model's, or those by which packets are damaged.
@@ -174,7 +173,7 @@ impl Seen {
         let turnouts = self.turnouts.missing("read of turnouts", model_turnouts::places(), most_turnouts);
         let frame = (self.placed_frames == 0).then(|| "no framing was refused with a place that is not 0".into());
         let steps = self.engines().into_iter().find_map(|(engine, steps)| steps.missing(engine));
-        let other = (self.steps != self.plain_steps).then(|| "the engines were asked different mode steps".into());
+        let other = (self.steps != self.plain_steps).then(|| "the steps by the two engines have not shown the same".into());
         answer.or(kind).or(gates).or(forward).or(back).or(turnouts).or(frame).or(steps).or(other)
     }
 

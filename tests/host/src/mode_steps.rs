@@ -14,7 +14,7 @@ fn step(mode: u32, flags: Vec<u8>) -> Call {
     Call::new(Kind::NextMode, &[mode]).with(flags)
 }
 
-/// The same step by the plain engine, of a step by the one in use.
+/// Of a step by the engine in use, the same by the plain one; of any other call, nothing.
 pub fn by_the_plain_engine(call: &Call) -> Option<Call> {
     (call.kind == Kind::NextMode).then(|| Call { kind: Kind::NextModePlain, ..call.clone() })
 }
@@ -42,7 +42,7 @@ fn open_two(mode: u32, pair: &[usize]) -> bool {
     leaving(mode).iter().filter(|t| pair.iter().any(|&n| lists(t, n))).count() == 2
 }
 
-/// The steps that every run begins with, for both engines.
+/// The steps that every run begins with. `Calls::next` asks each of the plain engine too.
 pub fn series() -> impl Iterator<Item = Call> {
     let of_no_mode = [0, 14, 257, u32::MAX].map(|mode| step(mode, vec![1; FLAGS]));
     MODES.flat_map(|mode| accepted(mode).chain(refused(mode))).chain(of_no_mode)
@@ -55,7 +55,7 @@ fn accepted(mode: u32) -> impl Iterator<Item = Call> {
     sets.map(move |set| step(mode, (1..=FLAGS).map(|n| u8::from(set.contains(&n))).collect()))
 }
 
-/// Too few and too many flags, and a flag that is none at the first place, in the middle and at the last.
+/// Too few and too many flags, and a byte that is no flag at the first place, in the middle and at the last.
 fn refused(mode: u32) -> impl Iterator<Item = Call> {
     let lengths = [0, FLAGS - 1, FLAGS + 1].map(|length| vec![1; length]);
     let wrong = [2, 255].into_iter().flat_map(|flag| {
@@ -76,7 +76,7 @@ pub fn call(random: &mut Random) -> Call {
 }
 
 /// Flags for a mode step from a mode that may be none: they open transitions of the mode, mostly into modes that have a row class. At
-/// times they are of another length, or a flag is none.
+/// times they are of another length, or hold a byte that is no flag.
 pub fn flags_for(random: &mut Random, mode: u32) -> Vec<u8> {
     let mut flags = vec![0; FLAGS];
     let all = random.chance(20);

@@ -979,7 +979,7 @@ fn mode_steps() {
 /// The model keeps the best so far, as T-09's engine does. Here its steps are held to the rule as document 01 says it.
 #[test]
 fn the_best_so_far_is_the_best_of_all() {
-    let mut chance = Chance(4);
+    let mut chance = Chance(5);
     for round in 0..13 * 20_000 {
         let (mode, percent) = (round % 13 + 1, [2, 5, 20][round % 3]);
         let set: Vec<usize> = (1..=91).filter(|_| chance.below(100) < percent).collect();

@@ -209,7 +209,7 @@ fn turnout_cases() -> Vec<Case> {
     reads.into_iter().chain(counts.map(|count| case("write", count, write))).collect()
 }
 
-/// A round that steps from a mode by an engine that tells the tie mark.
+/// A round: a step from the mode under 71 and 76, whose tie mark is 1.
 fn stepping(mode: u32, tie: impl Fn(u32, &[u8]) -> u32 + 'static) -> Rounds {
     let flags = flags(&[71, 76]);
     alone(move || assert_eq!(tie(black_box(mode), &flags), 1))
