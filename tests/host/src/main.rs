@@ -173,7 +173,8 @@ impl Seen {
         let turnouts = self.turnouts.missing("read of turnouts", model_turnouts::places(), most_turnouts);
         let frame = (self.placed_frames == 0).then(|| "no framing was refused with a place that is not 0".into());
         let steps = self.engines().into_iter().find_map(|(engine, steps)| steps.missing(engine));
-        let other = (self.steps != self.plain_steps).then(|| "the steps by the two engines have not shown the same".into());
+        let other =
+            (self.steps != self.plain_steps).then(|| "the steps by the two engines have not shown the same".into());
         answer.or(kind).or(gates).or(forward).or(back).or(turnouts).or(frame).or(steps).or(other)
     }
 
