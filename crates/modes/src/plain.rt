@@ -1,5 +1,5 @@
 // The plain engine (document 02, T-09): the mode step as it is read on paper. It tries all 80 transitions, one after another in the order of
-// the paper, and keeps the best so far.
+// the paper, and keeps the best so far. With the engine in use it shares what is refused; the best one it finds by itself.
 use crate::OUT_OF_RANGE;
 use crate::Step;
 use crate::is_refused;
@@ -52,6 +52,7 @@ fn weigh(best: Best, target: u32, priority: u32) -> Best
     if priority != best.priority {
         return best;
     }
+    // a tie: the lowest target, and the mark
     if target < best.mode {
         return so_far(target, priority, 1);
     }
@@ -108,6 +109,7 @@ fn walk(mode: u32, flags: &[u8]) -> Best
     best
 }
 
+// The step that an answer and the best so far tell.
 fn tell(answer: u32, best: Best) -> Step
     ensures { λ r. ⌜ r ≡ told answer best ⌝ }
 {

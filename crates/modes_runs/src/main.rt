@@ -128,9 +128,8 @@ fn ties_cleared() {
     three(PT, 86, 58, 5);
 }
 
-// A better one between the two that share a priority, and before them; a worse one behind a tie, before it, and between the
-// two that tie; three that tie; two that
-// tie, of which one is open by both its conditions.
+// A better one between the two that share a priority, and before them; a worse one behind a tie, before it, and between the two that
+// tie; three that tie; two that tie, of which one is open by both its conditions.
 fn ties_among_others() {
     three(SB, 60, 62, 61);
     three(OS, 71, 58, 69);

@@ -41,7 +41,7 @@ pub fn first(mode: u32) -> usize
 pub fn leaves_from(mode: u32, t: usize) -> bool
     ensures { λ r. ⌜ r ≡ leavesAt mode t ⌝ }
 {
-    // none leaves what is no mode, and behind a mode there is a next number
+    // no transition leaves what is no mode, and mode + 1 must be a number
     if names::IS < mode {
         return false;
     }
