@@ -6,6 +6,7 @@ use native.Mathlib.Omega.{arith}
 use lib.ListN.{length, getD, drop}
 use borrow.Author.Needs.{needs}
 use borrow.Author.Tests.{not-true, not-false}
+use Rattle.transitions.specs.Held.{transitionBytes}
 use Rattle.modes.proofs.Walking.{lent-wide}
 use Rattle.modes.proofs.Passing.{isNamed, anyNamed, named-here, named-next, named-end, countsAt, leaves-another, leaves-this}
 use Rattle.modes.proofs.plain.counts.Statement.{statement}
@@ -15,7 +16,7 @@ abbrev Inv-loop : tie.InvT-loop
 Inv-loop mode flags held t transition k₀ k = anyNamed flags (drop k transition) ≡ anyNamed flags (drop 2 transition)
 
 abbrev μ-loop : tie.MeasureT-loop
-μ-loop mode flags held t transition k₀ k = 11 - k
+μ-loop mode flags held t transition k₀ k = transitionBytes - k
 
 returns : tie.Need-returns Inv-loop μ-loop
 returns c =
@@ -32,8 +33,8 @@ left c =
     c .loop .inv
     ∙ sym (leaves-this _ (s .pre .0) (s .args .t) (s .pre .1) (s .args .mode) (s .args .flags .now) (sym (c .before .before .before .leaves-from .ensures) ∙ not-false _ (c .before .before .if1 .left)))
 
--- each transition has 11 bytes
-wide : (c : tie.At-loop Inv-loop μ-loop) → length (getD (c .before .before .before .before .before .args .held .now) (c .before .before .before .before .before .args .t) []) ≡ 11
+-- every transition has as many bytes
+wide : (c : tie.At-loop Inv-loop μ-loop) → length (getD (c .before .before .before .before .before .args .held .now) (c .before .before .before .before .before .args .t) []) ≡ transitionBytes
 wide c =
     let s = c .before .before .before .before .before in
     lent-wide _ (s .pre .0) (s .args .t) (s .pre .1)

@@ -1,13 +1,14 @@
 -- `modes::plain::next_mode` meets its contract: the input is refused, or walked.
 use mathlib.Core.Path.{ap, _∙_, sym}
 use borrow.Author.Needs.{needs}
+use Rattle.modes.specs.Next.{outOfRange}
 use Rattle.modes.specs.Plain.{told, plainStep}
 use Rattle.modes.proofs.plain.next_mode.Statement.{statement}
 use Rattle.modes.proofs.plain.next_mode.Tie as tie
 
 returns : tie.Need-returns
 unfolding plainStep
-returns c = c .tell .ensures ∙ ap (told 17) (c .before .so-far .ensures) ∙ rw (sym (c .before .before .before .is-refused .ensures) ∙ c .before .before .if1 .taken)
+returns c = c .tell .ensures ∙ ap (told outOfRange) (c .before .so-far .ensures) ∙ rw (sym (c .before .before .before .is-refused .ensures) ∙ c .before .before .if1 .taken)
 
 returns-2 : tie.Need-returns-2
 unfolding plainStep
