@@ -1,13 +1,13 @@
 -- The mode step: what input that is not refused gives a walk, and what the walk over a mode's transitions gives the step.
 use mathlib.Core.Path.{_≡_, ap, _∙_, sym}
-use mathlib.Core.Bool.{true, false, _&&_, _||_}
+use mathlib.Core.Bool.{true, false, _||_}
 use mathlib.Core.List.{List}
 use Prim.Native.Nat.{ℕ, _+_, _≤_}
 use lib.Dec.{eqb, leb}
 use lib.ListN.{length}
 use lib.Seq.{slice}
 use borrow.Author.Tests.{leb-true, eqb-true, not-false}
-use Rattle.transitions.specs.Names.{SB, IS}
+use Rattle.transitions.specs.Names.{SB, IS, isMode}
 use Rattle.transitions.specs.Table.{Transition, table, those}
 use Rattle.transitions.specs.Held.{firstOf}
 use Rattle.numbers.proofs.Logic.{both, neither}
@@ -22,9 +22,9 @@ pub record Taken (m : ℕ) (fs : List ℕ) : Type 0 where
   pub count : length fs ≡ flagCount
 
 pub taken : (m : ℕ) (fs : List ℕ) → refuses m fs ≡ false → Taken m fs
-unfolding refuses
+unfolding refuses isMode
 taken m fs e =
-    let mode = not-false (leb SB m && leb m IS) (neither (modeOutOfRange m) (wrongCount fs || flagAboveOne fs) e .0) in
+    let mode = not-false (isMode m) (neither (modeOutOfRange m) (wrongCount fs || flagAboveOne fs) e .0) in
     let flags = neither (wrongCount fs) (flagAboveOne fs) (neither (modeOutOfRange m) (wrongCount fs || flagAboveOne fs) e .1) .0 in
     record {
       low = leb-true SB m (both (leb SB m) (leb m IS) mode .0);

@@ -1,9 +1,9 @@
 -- The mode step (document 01, "Modes"): of the open transitions those of the best priority, of these the lowest target.
-use mathlib.Core.{Bool.Bool, Bool.cond, Bool.not, Bool._&&_, Bool._||_, List.List, List.[], List._∷_, List.map, List.foldr}
+use mathlib.Core.{Bool.Bool, Bool.cond, Bool.not, Bool._||_, List.List, List.[], List._∷_, List.map, List.foldr}
 use Prim.Native.Nat.{ℕ, min}
-use lib.{Dec.eqb, Dec.leb, Dec.ltb, ListN.length}
+use lib.{Dec.eqb, Dec.ltb, ListN.length}
 use Rattle.numbers.specs.Numbers.{oneIf}
-use Rattle.transitions.specs.{Names.SB, Names.IS, Table.Transition, Table.table, Table.those, Table.leavesFrom}
+use Rattle.transitions.specs.{Names.isMode, Table.Transition, Table.table, Table.those, Table.leavesFrom}
 use Rattle.modes.specs.{Flags.anySet, Flags.wrongCount, Flags.flagAboveOne, declared.Step.Step}
 
 -- a transition is open when any of its conditions is set
@@ -54,7 +54,7 @@ choose m (a ∷ xs) = accepted (lowest (winners (a ∷ xs))) (best (a ∷ xs)) (
 
 -- ground of refusal: no mode has this number
 abbrev pub modeOutOfRange : ℕ → Bool
-modeOutOfRange m = not (leb SB m && leb m IS)
+modeOutOfRange m = not (isMode m)
 
 -- the grounds of refusal together
 unfoldable pub refuses : ℕ → List ℕ → Bool

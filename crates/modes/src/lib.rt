@@ -19,7 +19,8 @@ ghost use Rattle.modes.specs.Flags.{anySet};
 ghost use Rattle.modes.specs.Next.{accepted, choose, isOpen, refuses, nextStep};
 ghost use Rattle.modes.specs.Kept.{kept, considered};
 
-const OUT_OF_RANGE: u32 = 17;
+// The answer to what is no mode, or not the flags of all conditions.
+pub const OUT_OF_RANGE: u32 = 17;
 
 #[repr(C)]
 pub struct Step {
@@ -33,10 +34,7 @@ pub struct Step {
 fn is_refused(mode: u32, flags: &[u8]) -> bool
     ensures { λ r. ⌜ r ≡ refuses mode (now (flags .entry)) ⌝ }
 {
-    if mode < names::SB {
-        return true;
-    }
-    if names::IS < mode {
+    if !names::is_mode(mode) {
         return true;
     }
     if flags.len() != flags::FLAGS {

@@ -5,3 +5,4 @@ pub mod WithinLaws
 pub mod NumberLaws
 pub mod CopyLaws
 pub mod JoinedLaws
+pub mod FrontLaws

@@ -7,9 +7,9 @@ use native.Mathlib.Omega.{arith}
 use borrow.Author.Tests.{leb-true, ltb-true}
 use lib.Dec.{eqb, leb, ltb}
 use lib.ListN.{length, take, drop}
-use Rattle.numbers.specs.Numbers.{numberAt}
+use Rattle.marks.specs.Marks.{isMarked}
 use Rattle.records.specs.Kinds.{among, payloadLength}
-use Rattle.records.specs.Form.{mark, headBytes, longest, kindOf, saidLength, recordLength, isRecord, mostRecords, isRun, payloadOf}
+use Rattle.records.specs.Form.{headBytes, longest, kindOf, saidLength, recordLength, isRecord, mostRecords, isRun, payloadOf}
 use Rattle.records.proofs.KindLaws.{payload-most}
 use Rattle.numbers.proofs.Logic.{both}
 
@@ -34,7 +34,7 @@ module _ (held : List ℕ) where
   unfolding isRecord
   record-whole e =
       let n : ℕ = payloadLength (kindOf held) in
-      let head : Bool = eqb (numberAt 2 held 0) mark && ltb 0 n && eqb (saidLength held) n in
+      let head : Bool = isMarked held && ltb 0 n && eqb (saidLength held) n in
       leb-true (recordLength held) (length held) (both head (leb (recordLength held) (length held)) e .1)
 
   -- and its kind is not 0
@@ -42,7 +42,7 @@ module _ (held : List ℕ) where
   unfolding isRecord payloadLength among
   record-kind e z =
       let n : ℕ = payloadLength (kindOf held) in
-      let marked : Bool = eqb (numberAt 2 held 0) mark in
+      let marked : Bool = isMarked held in
       let said : Bool = eqb (saidLength held) n in
       let whole : Bool = leb (recordLength held) (length held) in
       let some : 0 < n = ltb-true 0 n (both marked (ltb 0 n) (both (marked && ltb 0 n) said (both (marked && ltb 0 n && said) whole e .0) .0) .1) in

@@ -1,15 +1,13 @@
 -- The form of a record: the mark, the kind, the payload's length and the payload. What follows a record
 -- is not read.
 use mathlib.Core.{Bool.Bool, Bool._&&_, List.List}
-use Prim.Native.Nat.{ℕ, _+_, _*_}
+use Prim.Native.Nat.{ℕ, _+_}
 use lib.{Dec.eqb, Dec.leb, Dec.ltb, ListN.length, ListN.take, ListN.drop}
 use Rattle.numbers.specs.Numbers.{numberAt}
+use Rattle.marks.specs.Marks.{isMarked}
 use Rattle.replay.specs.Demand3.{Call}
 use Rattle.rules.specs.Rules.{Op}
 use Rattle.records.specs.Kinds.{payloadLength, callBy}
-
-abbrev pub mark : ℕ  -- the mark 4B 56
-mark = 75 * 256 + 86
 
 abbrev pub headBytes : ℕ  -- the bytes before the payload
 headBytes = 4
@@ -35,7 +33,7 @@ recordLength held = headBytes + payloadLength (kindOf held)
 -- the bytes begin with a whole record: the mark, a kind, that kind's length, and every byte is there
 unfoldable pub isRecord : List ℕ → Bool
 isRecord held =
-    eqb (numberAt 2 held 0) mark
+    isMarked held
     && ltb 0 (payloadLength (kindOf held))
     && eqb (saidLength held) (payloadLength (kindOf held))
     && leb (recordLength held) (length held)

@@ -3,8 +3,6 @@ ghost use mathlib.Core.Path.{_≡_};
 ghost use Rattle.records.specs.Form.{longest, kindOf, recordLength, isRecord, isRun};
 ghost use Rattle.records.specs.Kinds.{payloadLength};
 
-const MARK: u32 = 0x4B56;
-
 // The bytes before the payload.
 pub const HEAD: u32 = 4;
 
@@ -56,7 +54,7 @@ pub fn record_length(held: &[u8]) -> u32
 fn is_record(held: &[u8]) -> bool
     ensures { λ r. ⌜ r ≡ isRecord (now (held .entry)) ⌝ }
 {
-    if numbers::half_at(held, 0) != MARK {
+    if !marks::is_marked(held) {
         return false;
     }
     let length = payload_length(kind_of(held));

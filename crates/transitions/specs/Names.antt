@@ -1,5 +1,7 @@
 -- The modes by their numbers (document 01, "Modes").
+use mathlib.Core.Bool.{Bool, _&&_}
 use Prim.Native.Nat.{ℕ}
+use lib.Dec.{leb}
 
 abbrev pub SB : ℕ  -- standby
 SB = 1
@@ -39,3 +41,7 @@ SF = 12
 
 abbrev pub IS : ℕ  -- isolation
 IS = 13
+
+-- is it the number of a mode?
+unfoldable pub isMode : ℕ → Bool
+isMode m = leb SB m && leb m IS

@@ -1,4 +1,7 @@
 // The modes and their numbers.
+ghost use mathlib.Core.Path.{_≡_};
+ghost use Rattle.transitions.specs.Names.{isMode};
+
 pub const SB: u32 = 1;
 
 pub const SR: u32 = 2;
@@ -24,3 +27,10 @@ pub const NL: u32 = 11;
 pub const SF: u32 = 12;
 
 pub const IS: u32 = 13;
+
+// Is it the number of a mode?
+pub fn is_mode(mode: u32) -> bool
+    ensures { λ r. ⌜ r ≡ isMode mode ⌝ }
+{
+    SB <= mode && mode <= IS
+}

@@ -2,12 +2,11 @@
 use mathlib.Core.Path.{_≡_, sym, ap, _∙_}
 use Prim.Native.Nat.{ℕ}
 use native.Mathlib.Omega.{arith}
-use borrow.Author.Tests.{eq-eqb, ne-eqb, lt-ltb, le-ltb}
+use borrow.Author.Tests.{eq-eqb, ne-eqb, lt-ltb, le-ltb, not-true, not-false}
 use lib.Dec.{leb}
 use lib.ListN.{length}
-use Rattle.numbers.specs.Numbers.{numberAt}
 use Rattle.records.specs.Kinds.{payloadLength}
-use Rattle.records.specs.Form.{mark, kindOf, saidLength, isRecord}
+use Rattle.records.specs.Form.{kindOf, saidLength, isRecord}
 use borrow.Author.Needs.{needs}
 use Rattle.records.proofs.form.is_record.Statement.{statement}
 use Rattle.records.proofs.form.is_record.Tie as tie
@@ -15,14 +14,14 @@ use Rattle.records.proofs.form.is_record.Tie as tie
 returns : tie.Need-returns
 unfolding isRecord
 returns c = let s = c .before .before .before .args .held .now in
-    simp (ne-eqb (numberAt 2 s 0) mark (λ e. c .if1 .taken (c .before .half-at .ensures ∙ e)))
+    simp (sym (c .before .is-marked .ensures) ∙ not-true (c .before .is-marked .result) (c .if1 .taken))
 
 returns-2 : tie.Need-returns-2
 unfolding isRecord
 returns-2 c = let s = c .before .before .before .before .before .before .args .held .now in
     let n : c .before .payload-length .result ≡ payloadLength (kindOf s) = c .before .payload-length .ensures ∙ ap payloadLength (c .before .before .kind-of .ensures) in
     simp (
-      eq-eqb (numberAt 2 s 0) mark (sym (c .before .before .before .before .half-at .ensures) ∙ c .before .before .before .if1 .left),
+      sym (c .before .before .before .before .is-marked .ensures) ∙ not-false (c .before .before .before .before .is-marked .result) (c .before .before .before .if1 .left),
       le-ltb 0 (payloadLength (kindOf s)) (omega (arith, n, c .if2 .taken)),
     )
 
@@ -31,7 +30,7 @@ unfolding isRecord
 returns-3 c = let s = c .before .before .before .before .before .before .before .before .args .held .now in
     let n : c .before .before .before .payload-length .result ≡ payloadLength (kindOf s) = c .before .before .before .payload-length .ensures ∙ ap payloadLength (c .before .before .before .before .kind-of .ensures) in
     simp (
-      eq-eqb (numberAt 2 s 0) mark (sym (c .before .before .before .before .before .before .half-at .ensures) ∙ c .before .before .before .before .before .if1 .left),
+      sym (c .before .before .before .before .before .before .is-marked .ensures) ∙ not-false (c .before .before .before .before .before .before .is-marked .result) (c .before .before .before .before .before .if1 .left),
       lt-ltb 0 (payloadLength (kindOf s)) (omega (arith, n, c .before .before .if2 .left)),
       ne-eqb (saidLength s) (payloadLength (kindOf s)) (λ e. c .if3 .taken (c .before .byte-at .ensures ∙ e ∙ sym n)),
     )
@@ -41,7 +40,7 @@ unfolding isRecord
 returns-4 c = let s = c .before .before .before .before .before .before .before .before .before .args .held .now in
     let n : c .before .before .before .before .payload-length .result ≡ payloadLength (kindOf s) = c .before .before .before .before .payload-length .ensures ∙ ap payloadLength (c .before .before .before .before .before .kind-of .ensures) in
     simp (
-      eq-eqb (numberAt 2 s 0) mark (sym (c .before .before .before .before .before .before .before .half-at .ensures) ∙ c .before .before .before .before .before .before .if1 .left),
+      sym (c .before .before .before .before .before .before .before .is-marked .ensures) ∙ not-false (c .before .before .before .before .before .before .before .is-marked .result) (c .before .before .before .before .before .before .if1 .left),
       lt-ltb 0 (payloadLength (kindOf s)) (omega (arith, n, c .before .before .before .if2 .left)),
       eq-eqb (saidLength s) (payloadLength (kindOf s)) (sym (c .before .before .byte-at .ensures) ∙ c .before .if3 .left ∙ n),
     )

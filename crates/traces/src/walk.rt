@@ -1,0 +1,62 @@
+// A whole trace: its entries judged one after another, each under the mode after of the one before it.
+use crate::entry;
+use crate::entry::Judged;
+ghost use mathlib.Core.Path.{_≡_};
+ghost use lib.ListN.{length, drop};
+ghost use Prim.Native.Nat.{_≤_};
+ghost use Rattle.traces.specs.Trace.{firstEntry, yes, toldAt, checked};
+
+// The first entry that is refused or wrong, counted from 1, with the refusal or the mode due; zeros where there is none.
+#[repr(C)]
+pub struct Checked {
+    pub answer: u32,
+    pub entry: usize,
+    pub due: u32,
+}
+
+fn is_yes() -> Checked
+    ensures { λ r. ⌜ r ≡ yes ⌝ }
+{
+    Checked {
+        answer: 0,
+        entry: 0,
+        due: 0,
+    }
+}
+
+fn told_at(entry: usize, judged: Judged) -> Checked
+    ensures { λ r. ⌜ r ≡ toldAt entry judged ⌝ }
+{
+    Checked {
+        answer: judged.answer,
+        entry,
+        due: judged.due,
+    }
+}
+
+// The bytes of the first entry of a trace, or all where it is cut.
+pub fn first(trace: &[u8]) -> &[u8]
+    ensures { λ r. ⌜ now r ≡ firstEntry (now (trace .entry)) ⌝ }
+{
+    &trace[..numbers::at_most(entry::BYTES, trace.len())]
+}
+
+// Is the trace right, and if not, which entry is the first that is not?
+pub fn check(trace: &[u8]) -> Checked
+    ensures { λ r. ⌜ r ≡ checked (now (trace .entry)) ⌝ }
+{
+    let mut previous = entry::NONE;
+    let mut before: usize = 0;
+    let mut at: usize = 0;
+    while at < trace.len() {
+        let next = first(&trace[at..]);
+        let judged = entry::judge(previous, next);
+        if !judged.is_right() {
+            return told_at(before + 1, judged);
+        }
+        previous = entry::mode_after(next);
+        before += 1;
+        at += next.len();
+    }
+    is_yes()
+}
