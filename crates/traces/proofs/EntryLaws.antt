@@ -1,17 +1,21 @@
 -- Laws of one entry.
 use mathlib.Core.Path.{_≡_, refl}
-use mathlib.Core.Bool.{Bool, true, false, not, cond, false≢true}
+use mathlib.Core.Bool.{Bool, true, false, not, cond, _&&_, _||_, false≢true}
 use mathlib.Core.List.{List}
 use Prim.Native.Nat.{ℕ, _≤_}
 use native.Mathlib.Omega.{arith}
 use borrow.Author.Tests.{leb-true, le-leb, eqb-true, eq-eqb}
-use lib.Dec.{leb, eqb}
-use lib.ListN.{length}
+use lib.Dec.{leb, ltb, eqb}
+use lib.ListN.{length, take}
 use Rattle.numbers.proofs.Logic.{both}
+use Rattle.numbers.proofs.FrontLaws.{number-front, part-front, enough-front}
 use Rattle.marks.specs.Marks.{isMarked}
+use Rattle.marks.proofs.MarkLaws.{marked-front}
+use Rattle.transitions.specs.Names.{IS, isMode}
+use Rattle.modes.specs.Flags.{flagCount}
 use Rattle.modes.specs.Next.{refuses, outOfRange, nextStep}
 use Rattle.modes.proofs.Laws.{refused-exactly-on-its-grounds, accepted-otherwise}
-use Rattle.traces.specs.Entry.{entryBytes, modeAfter, isEntry, badEntry, isOutOfRange, follows, dueMode, refusedWith, wrongAt, before, after, right, isRight, judged}
+use Rattle.traces.specs.Entry.{entryBytes, modeBefore, flagsOf, modeAfter, isEntry, badEntry, isOutOfRange, follows, dueMode, refusedWith, wrongAt, before, after, right, isRight, judged}
 use Rattle.traces.specs.declared.entry.Judged.{Judged}
 
 -- the mode step refuses exactly where its answer is not 0
@@ -79,3 +83,37 @@ module _ (previous : ℕ) (e : List ℕ) where
   -- of a right entry every byte is there
   pub right-whole : isRight (judged previous e) ≡ true → entryBytes ≤ length e
   right-whole h = entry-whole e (right-means h .whole)
+
+-- ---- what follows an entry is not read
+
+module _ (e : List ℕ) (m : ℕ) (room : entryBytes ≤ m) where
+  before-front : modeBefore (take m e) ≡ modeBefore e
+  before-front = number-front 1 e 2 m (omega arith)
+
+  flags-front : flagsOf (take m e) ≡ flagsOf e
+  unfolding flagsOf
+  flags-front = part-front e 3 flagCount m (omega arith)
+
+  pub after-front : modeAfter (take m e) ≡ modeAfter e
+  after-front = number-front 1 e 94 m (omega arith)
+
+  entry-front : isEntry (take m e) ≡ isEntry e
+  unfolding isEntry
+  entry-front = λ i. marked-front e m (omega arith) i && enough-front entryBytes m e room i
+
+  range-front : (previous : ℕ) → isOutOfRange previous (take m e) ≡ isOutOfRange previous e
+  unfolding isOutOfRange
+  range-front previous = λ i. ltb IS previous || (refuses (before-front i) (flags-front i) || not (isMode (after-front i)))
+
+  follows-front : (previous : ℕ) → follows previous (take m e) ≡ follows previous e
+  unfolding follows
+  follows-front previous = λ i. eqb previous 0 || eqb (before-front i) previous
+
+  due-front : dueMode (take m e) ≡ dueMode e
+  unfolding dueMode
+  due-front = λ i. nextStep (before-front i) (flags-front i) .mode
+
+  pub judged-front : (previous : ℕ) → judged previous (take m e) ≡ judged previous e
+  unfolding judged
+  judged-front previous =
+      λ i. byTests (entry-front i) (range-front previous i) (follows-front previous i) (eqb (after-front i) (due-front i)) previous (due-front i)

@@ -176,14 +176,14 @@ module _ (previous : ℕ) (s : List ℕ) (low : previous ≤ IS) (r : RightBehin
       marked = λ i. at-next (λ e. isMarked e ≡ true) (r .trace .marked) i n e;
       inRange = λ i. at-next IsInRange (r .trace .inRange) i n e;
       chained = λ i l.
-      ap (λ (e : List ℕ). modeBefore e) (entry-behind s (i + 1) (i + 1 + 1) refl)
-      ∙ r .trace .chained (i + 1) (omega arith)
-      ∙ ap (λ (e : List ℕ). modeAfter e) (sym (entry-behind s i (i + 1) refl));
+          ap (λ (e : List ℕ). modeBefore e) (entry-behind s (i + 1) (i + 1 + 1) refl)
+          ∙ r .trace .chained (i + 1) (omega arith)
+          ∙ ap (λ (e : List ℕ). modeAfter e) (sym (entry-behind s i (i + 1) refl));
       due = λ i. at-next (λ e. modeAfter e ≡ dueMode e) (r .trace .due) i n e;
     };
     first = λ l.
-    means-follows (modeAfter (firstEntry s)) (entryAt (drop entryBytes s) 0)
-    (ap (λ (e : List ℕ). modeBefore e) (entry-behind s 0 1 refl) ∙ r .trace .chained 0 (omega arith));
+        means-follows (modeAfter (firstEntry s)) (entryAt (drop entryBytes s) 0)
+        (ap (λ (e : List ℕ). modeBefore e) (entry-behind s 0 1 refl) ∙ r .trace .chained 0 (omega arith));
   }
 
 right-yes : (count n previous : ℕ) (s : List ℕ) → previous ≤ IS → (r : RightBehind previous s) → r .trace .count ≡ count → walked n previous (entriesOf s) ≡ yes

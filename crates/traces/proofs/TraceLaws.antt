@@ -1,16 +1,14 @@
 -- Laws of a whole trace: its first entry, and what lies behind it.
 use mathlib.Core.Path.{_≡_, refl, sym, ap, _∙_}
 use mathlib.Core.Bool.{true, false}
-use mathlib.Core.Logic.{_⊎_, inl, inr}
 use mathlib.Core.List.{List, [], _∷_}
-use Prim.Native.Nat.{ℕ, zero, suc, min, _+_, _≤_, _<_}
+use Prim.Native.Nat.{ℕ, zero, suc, _+_, _≤_, _<_}
 use native.Mathlib.Omega.{arith}
-use lib.ListN.{length, take, drop, length-take, length-drop}
-use lib.Seq.{take-all, drop-drop}
-use Rattle.numbers.proofs.Logic.{lt-or-le}
+use lib.ListN.{length, drop, length-drop}
+use lib.Seq.{drop-drop}
 use Rattle.traces.specs.Entry.{entryBytes, modeAfter, isRight, judged}
 use Rattle.traces.specs.Trace.{firstEntry, entriesIn, entriesOf, yes, toldAt, walked, checked}
-use Rattle.traces.proofs.EntryLaws.{right-whole}
+use Rattle.traces.proofs.EntryLaws.{right-whole, after-front, judged-front}
 
 -- a bound that is large enough does not count
 enough : (n m : ℕ) (s : List ℕ) → length s ≤ n → length s ≤ m → entriesIn n s ≡ entriesIn m s
@@ -37,16 +35,6 @@ entries-next (b ∷ more) h =
     ap (λ (es : List (List ℕ)). firstEntry (b ∷ more) ∷ es)
     (enough (length more) (length (drop entryBytes (b ∷ more))) (drop entryBytes (b ∷ more)) (omega (arith, length-drop entryBytes (b ∷ more))) (omega arith))
 
--- the first entry is the part up to where it ends, or up to the end of the trace
-pub first-cut : (s : List ℕ) (n : ℕ) → n ≡ min entryBytes (length s) → take n s ≡ firstEntry s
-first-cut s n e = of (lt-or-le (length s) entryBytes)
-  where
-    of : (length s < entryBytes) ⊎ (entryBytes ≤ length s) → take n s ≡ firstEntry s
-    of (inl l) = take-all n s (omega arith) ∙ sym (take-all entryBytes s (omega arith))
-    of (inr l) =
-        let whole : n ≡ entryBytes = omega arith in
-        ap (λ (m : ℕ). take m s) whole
-
 -- ---- the walk, by the first entry
 
 module _ (n previous : ℕ) (s : List ℕ) where
@@ -64,7 +52,6 @@ module _ (n previous : ℕ) (s : List ℕ) where
     unfolding walked
     walked-on e = rw (entries-next s some) (rw e)
 
-
 -- ---- the loop: entries that were right are behind it, and what is left decides
 
 pub record Reached (s : List ℕ) (at n previous : ℕ) : Type 0 where
@@ -80,25 +67,24 @@ module _ {s : List ℕ} {at n previous : ℕ} (r : Reached s at n previous) wher
   pub reached-end : length s ≤ at → yes ≡ checked s
   reached-end h = walked-end n previous (drop at s) (omega (arith, length-drop at s)) ∙ sym (r .left)
 
-  module _ (h : at < length s) (first : List ℕ) (e : first ≡ firstEntry (drop at s)) where
+  module _ (h : at < length s) where
     some-left : 0 < length (drop at s)
     some-left = omega (arith, length-drop at s)
 
-    judged-same : judged previous first ≡ judged previous (firstEntry (drop at s))
-    judged-same = ap (judged previous) e
+    -- what is judged is the first entry of what is left
+    first-judged : judged previous (firstEntry (drop at s)) ≡ judged previous (drop at s)
+    first-judged = judged-front (drop at s) entryBytes (omega arith) previous
 
-    pub reached-told : isRight (judged previous first) ≡ false → toldAt (n + 1) (judged previous first) ≡ checked s
+    pub reached-told : isRight (judged previous (drop at s)) ≡ false → toldAt (n + 1) (judged previous (drop at s)) ≡ checked s
     reached-told w =
-        ap (toldAt (n + 1)) judged-same ∙ walked-told n previous (drop at s) some-left (sym (ap isRight judged-same) ∙ w) ∙ sym (r .left)
+        ap (toldAt (n + 1)) (sym first-judged) ∙ walked-told n previous (drop at s) some-left (ap isRight first-judged ∙ w) ∙ sym (r .left)
 
-    pub reached-next : isRight (judged previous first) ≡ true → Reached s (at + length first) (n + 1) (modeAfter first)
-    reached-next w =
-        let right : isRight (judged previous (firstEntry (drop at s))) ≡ true = sym (ap isRight judged-same) ∙ w in
-        let whole : length first ≡ entryBytes = omega (arith, right-whole previous first w, ap (λ (l : List ℕ). length l) e, length-take entryBytes (drop at s)) in
-        let behind : drop entryBytes (drop at s) ≡ drop (at + length first) s = ap (λ (k : ℕ). drop k (drop at s)) (sym whole) ∙ drop-drop (length first) at s in
-        let there : length (firstEntry (drop at s)) ≤ length (drop at s) = omega (arith, length-take entryBytes (drop at s)) in
-        record {
-          inside = omega (arith, ap (λ (l : List ℕ). length l) e, there, length-drop at s);
-          few = omega (arith, whole, r .few);
-          left = r .left ∙ walked-on n previous (drop at s) some-left right ∙ λ i. walked (n + 1) (modeAfter (sym e i)) (entriesOf (behind i));
-        }
+    pub reached-next : isRight (judged previous (drop at s)) ≡ true → Reached s (at + entryBytes) (n + 1) (modeAfter (drop at s))
+    reached-next w = record {
+      inside = omega (arith, right-whole previous (drop at s) w, length-drop at s);
+      few = omega (arith, r .few);
+      left =
+          r .left
+          ∙ walked-on n previous (drop at s) some-left (ap isRight first-judged ∙ w)
+          ∙ λ i. walked (n + 1) (after-front (drop at s) entryBytes (omega arith) i) (entriesOf (drop-drop entryBytes at s i));
+    }

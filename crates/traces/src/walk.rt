@@ -2,9 +2,7 @@
 use crate::entry;
 use crate::entry::Judged;
 ghost use mathlib.Core.Path.{_≡_};
-ghost use lib.ListN.{length, drop};
-ghost use Prim.Native.Nat.{_≤_};
-ghost use Rattle.traces.specs.Trace.{firstEntry, yes, toldAt, checked};
+ghost use Rattle.traces.specs.Trace.{yes, toldAt, checked};
 
 // The first entry that is refused or wrong, counted from 1, with the refusal or the mode due; zeros where there is none.
 #[repr(C)]
@@ -34,13 +32,6 @@ fn told_at(entry: usize, judged: Judged) -> Checked
     }
 }
 
-// The bytes of the first entry of a trace, or all where it is cut.
-pub fn first(trace: &[u8]) -> &[u8]
-    ensures { λ r. ⌜ now r ≡ firstEntry (now (trace .entry)) ⌝ }
-{
-    &trace[..numbers::at_most(entry::BYTES, trace.len())]
-}
-
 // Is the trace right, and if not, which entry is the first that is not?
 pub fn check(trace: &[u8]) -> Checked
     ensures { λ r. ⌜ r ≡ checked (now (trace .entry)) ⌝ }
@@ -49,14 +40,14 @@ pub fn check(trace: &[u8]) -> Checked
     let mut before: usize = 0;
     let mut at: usize = 0;
     while at < trace.len() {
-        let next = first(&trace[at..]);
-        let judged = entry::judge(previous, next);
+        let rest = &trace[at..];
+        let judged = entry::judge(previous, rest);
         if !judged.is_right() {
             return told_at(before + 1, judged);
         }
-        previous = entry::mode_after(next);
+        previous = entry::mode_after(rest);
         before += 1;
-        at += next.len();
+        at += entry::BYTES;
     }
     is_yes()
 }

@@ -4,14 +4,13 @@ use mathlib.Core.Bool.{true}
 use mathlib.Core.List.{List}
 use Prim.Native.Nat.{ℕ, _+_, _-_, _<_}
 use native.Mathlib.Omega.{arith}
-use lib.ListN.{length, drop, length-drop}
-use lib.Seq.{take-all}
 use borrow.Author.Tests.{not-true, not-false}
-use borrow.Author.Needs.{needs}
-use Rattle.traces.specs.Entry.{modeAfter, isRight, judged}
-use Rattle.traces.specs.Trace.{firstEntry, toldAt}
-use Rattle.traces.proofs.EntryLaws.{right-whole}
+use lib.ListN.{length, take, drop, length-drop}
+use lib.Seq.{take-all}
+use Rattle.traces.specs.Entry.{entryBytes, modeAfter, isRight, judged}
+use Rattle.traces.specs.Trace.{toldAt}
 use Rattle.traces.proofs.TraceLaws.{Reached, reached-first, reached-told, reached-next, reached-end}
+use borrow.Author.Needs.{needs}
 use Rattle.traces.proofs.walk.check.Statement.{statement}
 use Rattle.traces.proofs.walk.check.Tie as tie
 
@@ -27,33 +26,29 @@ loop-holds c = reached-first (c .before .args .trace .now)
 -- an entry that was judged
 module _ (c : tie.After-is-right Inv-loop μ-loop) where
   abbrev looped : tie.At-loop Inv-loop μ-loop
-  looped = c .before .before .before .before .before
+  looped = c .before .before .before .before
 
   abbrev trace : List ℕ
   trace = looped .before .before .args .trace .now
 
-  abbrev first : List ℕ
-  first = c .before .before .first .result .now
+  abbrev left : List ℕ
+  left = drop (looped .loop .at) trace
 
   inside : looped .loop .at < length trace
-  inside = c .before .before .before .before .loop-test .taken
+  inside = c .before .before .before .loop-test .taken
 
-  first-is : first ≡ firstEntry (drop (looped .loop .at) trace)
-  first-is =
-      let rest : List ℕ = drop (looped .loop .at) trace in
-      c .before .before .first .ensures ∙ ap firstEntry (take-all (length trace - looped .loop .at) rest (omega (arith, length-drop (looped .loop .at) trace)))
+  -- the part that is lent is all that is left
+  all-left : take (length trace - looped .loop .at) left ≡ left
+  all-left = take-all (length trace - looped .loop .at) left (omega (arith, length-drop (looped .loop .at) trace))
 
-  judged-is : c .before .judge .result ≡ judged (looped .loop .previous) first
-  judged-is = c .before .judge .ensures
+  judged-is : c .before .judge .result ≡ judged (looped .loop .previous) left
+  judged-is = c .before .judge .ensures ∙ ap (judged (looped .loop .previous)) all-left
 
-  is-right : c .is-right .result ≡ true → isRight (judged (looped .loop .previous) first) ≡ true
-  is-right e = sym (ap isRight judged-is) ∙ sym (c .is-right .ensures) ∙ e
+  is-right : c .is-right .result ≡ isRight (judged (looped .loop .previous) left)
+  is-right = c .is-right .ensures ∙ ap isRight judged-is
 
-  right : c .is-right .result ≡ true → Reached trace (looped .loop .at + length first) (looped .loop .before + 1) (modeAfter first)
-  right e = reached-next (looped .loop .inv) inside first first-is (is-right e)
-
-  some : c .is-right .result ≡ true → 0 < length first
-  some e = omega (arith, right-whole (looped .loop .previous) first (is-right e))
+  next : c .is-right .result ≡ true → Reached trace (looped .loop .at + entryBytes) (looped .loop .before + 1) (modeAfter left)
+  next e = reached-next (looped .loop .inv) inside (sym is-right ∙ e)
 
 add-told-at : tie.Need-add-told-at Inv-loop μ-loop
 add-told-at c = omega (arith, inside (c .before), looped (c .before) .loop .inv .few)
@@ -61,21 +56,23 @@ add-told-at c = omega (arith, inside (c .before), looped (c .before) .loop .inv 
 returns : tie.Need-returns Inv-loop μ-loop
 returns c =
     let tested = c .before .before in
-    c .told-at .ensures ∙ ap (toldAt _) (judged-is tested)
-    ∙ reached-told (looped tested .loop .inv) (inside tested) (first tested) (first-is tested)
-    (sym (ap isRight (judged-is tested)) ∙ sym (tested .is-right .ensures) ∙ not-true _ (c .before .if1 .taken))
+    c .told-at .ensures
+    ∙ ap (toldAt _) (judged-is tested)
+    ∙ reached-told (looped tested .loop .inv) (inside tested) (sym (is-right tested) ∙ not-true _ (c .before .if1 .taken))
 
 add-before : tie.Need-add-before Inv-loop μ-loop
 add-before c = omega (arith, inside (c .before .before), looped (c .before .before) .loop .inv .few)
 
 add-at : tie.Need-add-at Inv-loop μ-loop
-add-at c = omega (arith, right (c .before .before) (not-false _ (c .before .if1 .left)) .inside)
+add-at c = omega (arith, next (c .before .before) (not-false _ (c .before .if1 .left)) .inside)
 
 loop-less : tie.Need-loop-less Inv-loop μ-loop
-loop-less c = omega (arith, inside (c .before .before), some (c .before .before) (not-false _ (c .before .if1 .left)))
+loop-less c = omega (arith, inside (c .before .before))
 
 loop-again : tie.Need-loop-again Inv-loop μ-loop
-loop-again c = subst (Reached _ _ _) (sym (c .mode-after .ensures)) (right (c .before .before) (not-false _ (c .before .if1 .left)))
+loop-again c =
+    let after = c .mode-after .ensures ∙ ap (λ (l : List ℕ). modeAfter l) (all-left (c .before .before)) in
+    subst (Reached _ _ _) (sym after) (next (c .before .before) (not-false _ (c .before .if1 .left)))
 
 returns-2 : tie.Need-returns-2 Inv-loop μ-loop
 returns-2 c = c .is-yes .ensures ∙ reached-end (c .before .before .loop .inv) (c .before .loop-test .left)
@@ -84,6 +81,6 @@ pub check-spec : {M : Type 1} → statement M
 check-spec =
     tie.close
     (tie.spec
-    Inv-loop μ-loop loop-holds (λ c. search needs) (λ c. search needs) (λ c. search needs) (λ c κs. search needs) (λ c κs. search needs)
+    Inv-loop μ-loop loop-holds (λ c. search needs) (λ c. search needs) (λ c. search needs) (λ c κs. search needs)
     (λ c κs. search needs) add-told-at (λ c κs. search needs) returns (λ c κs. search needs) add-before add-at loop-less loop-again
     (λ c κs. search needs) returns-2)
