@@ -3,7 +3,7 @@ use modes::Step;
 use transitions::names;
 ghost use mathlib.Core.Path.{_≡_};
 ghost use Rattle.modes.specs.Next.{nextStep};
-ghost use Rattle.traces.specs.Entry.{modeBefore, modeAfter, flagsOf, isEntry, isOutOfRange, follows, refusedWith, wrongAt, isRight, judged};
+ghost use Rattle.traces.specs.Entry.{modeBefore, modeAfter, flagsOf, isEntry, isOutOfRange, follows, refusedWith, wrongAt, right, isRight, judged};
 
 pub const BYTES: usize = 95;
 
@@ -13,7 +13,7 @@ const FLAGS: usize = 3;
 
 const MODE_AFTER: usize = 94;
 
-const BAD_ENTRY: u32 = 24;
+pub const BAD_ENTRY: u32 = 24;
 
 // No previous mode: nothing came before.
 pub const NONE: u32 = 0;
@@ -52,6 +52,12 @@ impl Judged {
             wrong: which,
             due,
         }
+    }
+
+    pub fn right() -> Judged
+        ensures { λ r. ⌜ r ≡ right ⌝ }
+    {
+        Judged::wrong(NEITHER, 0)
     }
 
     pub fn is_right(self) -> bool
@@ -118,5 +124,5 @@ pub fn judge(previous: u32, entry: &[u8]) -> Judged
     if mode_after(entry) != step.mode {
         return Judged::wrong(AFTER, step.mode);
     }
-    Judged::wrong(NEITHER, 0)
+    Judged::right()
 }

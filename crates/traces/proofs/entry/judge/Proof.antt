@@ -80,7 +80,7 @@ unfolding judged
 returns-5 c =
     let compared = c .before .before .before in
     let tested = compared .before .before in
-    c .wrong3 .ensures
+    c .right .ensures
     ∙ simp (
       whole (stepped tested),
       inside tested,
