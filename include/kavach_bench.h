@@ -7,8 +7,8 @@
  * host with several threads keeps them apart by a lock of its own.
  *
  * ANSWERS. Every answer has the field `answer`: 0 (KB_ACCEPTED), or the number of the one reason for a refusal (enum
- * kb_reason). A refusal gives zeros in all other fields (but for a `place`, and kb_run_record says which it keeps) and CHANGES
- * NOTHING: neither the session nor any lent buffer.
+ * kb_reason). A refusal gives zeros in all other fields (but for a `place` and a trace's `entry`, and kb_run_record says which
+ * it keeps) and CHANGES NOTHING: neither the session nor any lent buffer.
  * Where several reasons hold, the answer is the first in the order in which the call lists them here. docs/ANSWERS.md says of
  * each reason what to do about it.
  * Numbers are 32 bits wide and may be any: what is out of range is refused, never cut. A ticket of 65,537 is not ticket 1.
@@ -83,7 +83,7 @@ enum kb_reason {
                            writing turnouts: a distance that is absent and not zero */
     KB_PADDING = 5,     /* the bits that fill up the last byte are not zero */
     KB_DISTANCE = 6,    /* moving gates back: a distance that is not a multiple of 10, or is above 5,110 */
-    /* Sessions, the mode step and the frame age. */
+    /* Sessions, the mode step, mode traces and the frame age. */
     KB_LOCO = 10,       /* a loco number that is not 1 to 131,070, of a request too */
     KB_BYTES = 11,      /* a request for other than 1 to 324 bytes */
     KB_REGISTERED = 12, /* the loco is registered already: use its ticket, or release it first */
@@ -91,14 +91,15 @@ enum kb_reason {
     KB_NO_TICKET = 14,  /* the ticket counter is at 65,535; a step back gives none back, so start a new session */
     KB_NO_RUN = 15,     /* no free run of slots is long enough */
     KB_NO_TRAIN = 16,   /* no live train has this loco and ticket together */
-    KB_RANGE = 17,      /* a flag, mode, location, frame or grid out of range; flags not 91 bytes; rear above front */
+    KB_RANGE = 17,      /* a flag, mode, location, frame or grid out of range, in a mode trace too; flags not 91 bytes; rear
+                           above front */
     KB_NO_POSITION = 18, /* the order needs a position that was never reported */
     KB_NO_CLASS = 19,   /* a train of the SOS is in a mode without a row class, or the grid has no order for L2's class */
     KB_NO_PLACE = 20,   /* a train holds four orders already, none of them under the other's ticket */
     KB_NO_ORDER = 21,   /* the train has no order under that ticket */
     KB_TOO_FAR = 22,    /* a step back by more than the entries kept */
     KB_SAME_TRAIN = 23, /* both trains of an SOS are the same */
-    KB_RECORD = 24,     /* recordings: wrong mark, kind or length, or a cut record */
+    KB_RECORD = 24,     /* recordings: wrong mark, kind or length, or a cut record; mode traces: wrong mark, or a cut entry */
     KB_SESSION = 34     /* the lent session has another length than KB_SESSION_SIZE */
 };
 
@@ -117,8 +118,8 @@ typedef struct kb_session {
 #define KB_LEND(session) (session)->bytes, sizeof (session)->bytes
 
 /* The rows of the register, the slots, the flags of a mode step, the bytes of a gate outside its sub-packet, the most gates of
- * a sub-packet, its bytes then, these two in the old form, these three of turnouts, and the bytes of the longest record of a
- * recording. */
+ * a sub-packet, its bytes then, these two in the old form, these three of turnouts, the bytes of the longest record of a
+ * recording, and those of an entry of a mode trace. */
 #define KB_ROWS 24
 #define KB_SLOTS 44
 #define KB_FLAGS 91
@@ -131,6 +132,7 @@ typedef struct kb_session {
 #define KB_MOST_TURNOUTS 3
 #define KB_TURNOUT_PACKET_SIZE 14
 #define KB_LONGEST_RECORD 101
+#define KB_TRACE_ENTRY_SIZE 95
 
 /* Bit positions: of length, count and first gate in a sub-packet; the bits of a gate; and of its judged fields in a gate. */
 #define KB_LENGTH_AT 4
@@ -301,6 +303,44 @@ kb_step_answer kb_next_mode(uint32_t mode, const uint8_t *flags, size_t flags_le
  * answer is kb_next_mode's. Changes nothing.
  * Refused: 17 a mode not 1 to 13, flags not 91 bytes, or a flag above 1. */
 kb_step_answer kb_next_mode_plain(uint32_t mode, const uint8_t *flags, size_t flags_len);
+
+/* A MODE TRACE is entries one after another, with nothing between or behind them. An entry takes KB_TRACE_ENTRY_SIZE bytes:
+ * the mark 4B 56, the mode before, KB_FLAGS flags as kb_next_mode takes them, and the mode after. It is right where its mode
+ * before is the mode after of the entry before it (the first entry's is free) and its mode after is the one that kb_next_mode
+ * gives. */
+typedef struct kb_trace_answer {
+    uint32_t answer;
+    size_t entry; /* the first entry that is wrong or refused, counted from 1; 0 where every entry is right */
+    uint32_t due; /* the mode that was due in a wrong entry; else 0 */
+} kb_trace_answer;
+
+/* Checks a trace entry by entry, up to the first that is wrong or refused: what stands behind it is not judged. THE TRACE IS
+ * RIGHT WHERE `answer` AND `entry` ARE BOTH 0; an empty one is. Where the mode before of an entry is wrong, the mode due is
+ * the mode after of the entry before it; else, where its mode after is wrong, the one that kb_next_mode gives. Changes
+ * nothing.
+ * Refused, each at its entry and before the entry is judged, with `entry` told: 24 wrong mark, or fewer than 95 bytes left; 17
+ * a mode not 1 to 13, or a flag above 1. */
+kb_trace_answer kb_check_trace(const uint8_t *trace, size_t trace_len);
+
+/* What `wrong` may be. */
+enum kb_wrong {
+    KB_RIGHT = 0,
+    KB_MODE_BEFORE = 1, /* the mode before is another than the mode after of the entry before it */
+    KB_MODE_AFTER = 2   /* the mode after is another than kb_next_mode gives */
+};
+
+typedef struct kb_trace_entry_answer {
+    uint32_t answer;
+    uint32_t wrong; /* of enum kb_wrong; 0 where the entry is refused, too */
+    uint32_t due;   /* the mode that was due in a wrong entry; else 0 */
+} kb_trace_entry_answer;
+
+/* Checks the entry that `entry` begins with, and ignores what follows it; `previous` is the mode after of the entry before it,
+ * or 0 where none came before. To check a trace of any length, hold KB_TRACE_ENTRY_SIZE bytes of it or all that is left, and
+ * pass the mode after of each entry that is right, entry[KB_TRACE_ENTRY_SIZE - 1], on as `previous` of the next, until one is
+ * wrong or refused or nothing is left. An entry is judged as kb_check_trace judges it. Changes nothing.
+ * Refused: 24 wrong mark, or fewer than 95 bytes; 17 `previous` above 13, a mode not 1 to 13, or a flag above 1. */
+kb_trace_entry_answer kb_check_trace_entry(uint32_t previous, const uint8_t *entry, size_t entry_len);
 
 /* ---- A session: start and the nine operations ----
  * Each changes the lent session where it is accepted, and no byte of it where it is refused. Each accepted operation but

@@ -24,5 +24,5 @@ pub const NO_ORDER: u32 = 21;
 pub const NOT_KEPT: u32 = 22;
 pub const SAME_TRAIN: u32 = 23;
 
-// Recordings.
+// Recordings and mode traces.
 pub const WRONG_RECORD: u32 = 24;

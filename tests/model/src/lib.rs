@@ -15,5 +15,6 @@ pub mod packets;
 pub mod recording;
 pub mod session;
 pub mod sos;
+pub mod traces;
 pub mod train;
 pub mod turnouts;

@@ -6,7 +6,8 @@ use crate::packets;
 use crate::session::{Answer, Pair, Session};
 use std::io::{self, ErrorKind, Read, Write};
 
-const MARK: [u8; 2] = [0x4B, 0x56];
+/// What every record begins with, and every entry of a mode trace.
+pub const MARK: [u8; 2] = [0x4B, 0x56];
 const HEADER: usize = 4;
 /// Payload bytes of kinds 1 to 9; a loco and a ticket take 6.
 const PAYLOADS: [usize; 9] = [6, 6, 6 + FLAGS, 14, 10, 10, 13, 8, 2];

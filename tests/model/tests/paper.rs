@@ -1,7 +1,7 @@
 //! Document 01's examples and the rules beside them, run on the model.
 
 use bench_model::session::{Answer, Pair, Session, NONE};
-use bench_model::{clock, modes, old_gates, packets, recording, sos, turnouts};
+use bench_model::{clock, modes, old_gates, packets, recording, sos, traces, turnouts};
 use std::collections::BTreeSet;
 
 fn accepted(numbers: [u32; 3]) -> Answer {
@@ -990,6 +990,230 @@ fn the_best_so_far_is_the_best_of_all() {
         let due = modes::Step { mode: target, priority: best.unwrap_or(0), tie: u32::from(sharing.len() > 1) };
         assert_eq!(modes::step(mode as u32, &flags(&set)), Ok(due), "mode {mode}, conditions {set:?}");
     }
+}
+
+/// An entry of a mode trace.
+fn entry(before: &str, set: &[usize], after: &str) -> Vec<u8> {
+    let [before, after] = [before, after].map(|mode| modes::number(mode) as u8);
+    [&[0x4B, 0x56, before], &flags(set)[..], &[after]].concat()
+}
+
+/// SB to OS, to TR, stays, to PT, and over a tie of OV and RV to OV: a right trace of five entries.
+fn right_trace() -> Vec<u8> {
+    let entries = [
+        entry("SB", &[64], "OS"),
+        entry("OS", &[69, 7], "TR"),
+        entry("TR", &[7], "TR"),
+        entry("TR", &[59], "PT"),
+        entry("PT", &[86, 58], "OV"),
+    ];
+    entries.concat()
+}
+
+/// The answer to a trace, its entry and the mode due.
+fn check(trace: &[u8]) -> (u32, usize, u32) {
+    let traces::TraceAnswer { answer, entry, due } = traces::check_trace(trace);
+    (answer, entry, due)
+}
+
+/// The answer to one entry, what is wrong, and the mode due.
+fn check_entry(previous: u32, bytes: &[u8]) -> (u32, u32, u32) {
+    let traces::EntryAnswer { answer, wrong, due } = traces::check_entry(previous, bytes);
+    (answer, wrong, due)
+}
+
+/// The same bytes with another byte at an offset in the entry of a number.
+fn changed(trace: &[u8], entry: usize, offset: usize, byte: u8) -> Vec<u8> {
+    let mut trace = trace.to_vec();
+    trace[95 * (entry - 1) + offset] = byte;
+    trace
+}
+
+/// The offsets of the two modes of an entry.
+const BEFORE: usize = 2;
+const AFTER: usize = 94;
+
+#[test]
+fn right_traces() {
+    assert_eq!(check(&[]), (0, 0, 0));
+    for entries in 0..=5 {
+        assert_eq!(check(&right_trace()[..95 * entries]), (0, 0, 0));
+    }
+    assert_eq!(check(&right_trace()[95..]), (0, 0, 0));
+    assert_eq!(check(&entry("FS", &[71, 76], "LS")), (0, 0, 0));
+    for mode in 1..=13 {
+        let trace = changed(&changed(&entry("SB", &[], "SB"), 1, BEFORE, mode), 1, AFTER, mode);
+        assert_eq!(check(&trace.repeat(300)), (0, 0, 0));
+    }
+}
+
+#[test]
+fn the_first_wrong_entry_of_a_trace_is_told_with_the_mode_due() {
+    assert_eq!(check(&entry("FS", &[71, 76], "OV")), (0, 1, 3));
+    assert_eq!(check(&entry("TR", &[7], "SB")), (0, 1, 7));
+    for (number, due) in [(1, 6), (2, 7), (3, 7), (4, 8), (5, 5)] {
+        for mode in (1..=13).filter(|&mode| mode != due) {
+            let wrong = changed(&right_trace(), number, AFTER, mode);
+            assert_eq!(check(&wrong), (0, number, u32::from(due)));
+            // The entries after the first wrong one are not looked at.
+            assert_eq!(check(&changed(&wrong, 5, AFTER, 13)), (0, number, u32::from(due)));
+        }
+    }
+    for (number, due) in [(2, 6), (3, 7), (4, 7), (5, 8)] {
+        for mode in (1..=13).filter(|&mode| mode != due) {
+            let wrong = changed(&right_trace(), number, BEFORE, mode);
+            assert_eq!(check(&wrong), (0, number, u32::from(due)));
+            // Where both modes are wrong the mode before is.
+            assert_eq!(check(&changed(&wrong, number, AFTER, 12)), (0, number, u32::from(due)));
+        }
+    }
+    // The first mode before is free: another one is not wrong, but another mode is due after it.
+    assert_eq!(check(&changed(&right_trace(), 1, BEFORE, 7)), (0, 1, 7));
+    // The second entry is right by itself, but does not follow the first.
+    assert_eq!(check(&[entry("SB", &[64], "OS"), entry("FS", &[69], "TR")].concat()), (0, 2, 6));
+}
+
+/// The answer to an entry that would be right, but for this byte at this offset; 0 where the byte is no ground for a refusal.
+fn ground(offset: usize, byte: u8) -> u32 {
+    match offset {
+        0 | 1 => 24,
+        BEFORE | AFTER if !(1..=13).contains(&byte) => 17,
+        3..AFTER if byte > 1 => 17,
+        _ => 0,
+    }
+}
+
+#[test]
+fn a_trace_is_refused_at_its_entry_before_that_is_judged() {
+    let trace = right_trace();
+    let places = (1..=5).flat_map(|number| (0..95).map(move |offset| (number, offset)));
+    let bytes = [0, 1, 2, 13, 14, 255];
+    for ((number, offset), byte) in places.flat_map(|place| bytes.map(|byte| (place, byte))) {
+        let ground = ground(offset, byte);
+        if ground == 0 {
+            continue;
+        }
+        let refused = changed(&trace, number, offset, byte);
+        assert_eq!(check(&refused), (ground, number, 0));
+        // Also where a mode is wrong, and where the form is wrong too.
+        let mode = if offset == BEFORE { AFTER } else { BEFORE };
+        assert_eq!(check(&changed(&refused, number, mode, 11)), (ground, number, 0));
+        assert_eq!(check(&changed(&refused, number, 1, 0)), (24, number, 0));
+    }
+}
+
+#[test]
+fn a_cut_trace_is_refused_at_the_cut_entry() {
+    let trace = right_trace();
+    for length in 0..trace.len() {
+        let told = if length % 95 == 0 { (0, 0, 0) } else { (24, length / 95 + 1, 0) };
+        assert_eq!(check(&trace[..length]), told);
+    }
+    assert_eq!(check(&[&trace[..], &[0x4B]].concat()), (24, 6, 0));
+}
+
+#[test]
+fn what_is_told_of_a_trace_comes_before_what_follows_it() {
+    let trace = right_trace();
+    let faults = |number| {
+        [
+            (changed(&trace, number, AFTER, 13), 0),
+            (changed(&trace, number, BEFORE, 13), 0),
+            (changed(&trace, number, 0, 0), 24),
+            (changed(&trace, number, 40, 2), 17),
+        ]
+    };
+    for number in 2..=4 {
+        for (one, answer) in faults(number) {
+            for (other, _) in (number + 1..=5).flat_map(faults) {
+                let both = [&one[..95 * number], &other[95 * number..]].concat();
+                let (told, at, _) = check(&both);
+                assert_eq!((told, at), (answer, number));
+            }
+            let cut = &one[..95 * number + 1];
+            assert_eq!((check(cut).0, check(cut).1), (answer, number));
+        }
+    }
+}
+
+#[test]
+fn one_entry_of_a_trace() {
+    let entry = entry("FS", &[71, 76], "LS");
+    for (previous, told) in
+        [(0, (0, 0, 0)), (4, (0, 0, 0)), (1, (0, 1, 1)), (3, (0, 1, 3)), (13, (0, 1, 13)), (14, (17, 0, 0))]
+    {
+        assert_eq!(check_entry(previous, &entry), told);
+        assert_eq!(check_entry(previous, &[&entry[..], &entry].concat()), told);
+        assert_eq!(check_entry(previous, &[&entry[..], &[0xFF]].concat()), told);
+        assert_eq!(check_entry(previous, &changed(&entry, 1, 3, 2)), (17, 0, 0));
+        assert_eq!(check_entry(previous, &changed(&entry, 1, 1, 0)), (24, 0, 0));
+        for length in [0, 1, 2, 94] {
+            assert_eq!(check_entry(previous, &entry[..length]), (24, 0, 0));
+        }
+    }
+    for previous in [256 + 4, 65_536 + 4, u32::MAX] {
+        assert_eq!(check_entry(previous, &entry), (17, 0, 0));
+    }
+    let wrong = changed(&entry, 1, AFTER, 5);
+    assert_eq!(check_entry(0, &wrong), (0, 2, 3));
+    assert_eq!(check_entry(4, &wrong), (0, 2, 3));
+    assert_eq!(check_entry(5, &wrong), (0, 1, 5));
+}
+
+/// An entry that is made up, and the mode that is due after it.
+#[derive(Debug)]
+struct Made {
+    before: u32,
+    set: Vec<usize>,
+    after: u32,
+    due: u32,
+}
+
+impl Chance {
+    /// Up to five entries; of eight modes one is any.
+    fn entries(&mut self) -> Vec<Made> {
+        let mut entries = Vec::new();
+        let mut mode = 1;
+        for _ in 0..self.below(6) {
+            let before = self.mode_or_any(mode);
+            let set: Vec<usize> = (1..=91).filter(|_| self.below(100) < 10).collect();
+            let due = modes::step(before, &flags(&set)).expect("accepted").mode;
+            mode = self.mode_or_any(due);
+            entries.push(Made { before, set, after: mode, due });
+        }
+        entries
+    }
+
+    fn mode_or_any(&mut self, mode: u32) -> u32 {
+        let any = 1 + self.below(13);
+        if self.below(8) == 0 {
+            any
+        } else {
+            mode
+        }
+    }
+}
+
+/// T-12's own words, of traces whose form is right: each mode after is due, and each mode before is the previous mode after.
+#[test]
+fn a_trace_is_right_exactly_where_each_entry_is() {
+    let mut chance = Chance(12);
+    let mut right = 0;
+    for _ in 0..20_000 {
+        let entries = chance.entries();
+        let previous = |n: usize| if n == 0 { entries[0].before } else { entries[n - 1].after };
+        let wrong = |n: &usize| entries[*n].before != previous(*n) || entries[*n].after != entries[*n].due;
+        let told = (0..entries.len()).find(wrong).map_or((0, 0, 0), |n| {
+            let before = entries[n].before != previous(n);
+            (0, n + 1, if before { previous(n) } else { entries[n].due })
+        });
+        let bytes = entries.iter().flat_map(|Made { before, set, after, .. }| {
+            [&[0x4B, 0x56, *before as u8], &flags(set)[..], &[*after as u8]].concat()
+        });
+        assert_eq!(check(&bytes.collect::<Vec<u8>>()), told, "{entries:?}");
+        right += usize::from(told == (0, 0, 0));
+    }
+    assert!((5_000..15_000).contains(&right), "{right} of 20,000 are right");
 }
 
 #[test]
