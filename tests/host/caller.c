@@ -12,13 +12,15 @@
 /* Bytes in front of a session that are watched too, and how much longer than a session a lent one may be. */
 #define LEAD 64
 #define LONGER 8192
+/* The most bytes that may be given: a long mode trace takes 6,650,000. */
+#define GIVEN 8000000
 #define WORDS 19
 
 enum kind {
     START, REQUEST, RELEASE, FLAGS, POSITION, AUTHORITY, DANGER, SOS, CLEAR, STEP_BACK,
     COUNTER, KEPT, IS_TAKEN, END, TRAIN,
     FRAME, READ_GATES, WRITE_GATES, GATES_FORWARD, GATES_BACK, READ_TURNOUTS, WRITE_TURNOUTS, FRAME_AGE, NEXT_MODE, NEXT_MODE_PLAIN,
-    SESSION_SIZE, RUN_RECORD, LONGEST_RECORD,
+    CHECK_TRACE, CHECK_TRACE_ENTRY, SESSION_SIZE, RUN_RECORD, LONGEST_RECORD,
     FILL = 30, /* the session's bytes are those given */
     POKE = 31, /* byte n[0] of the session is n[1] */
     TURNS = 32 /* a request of loco n[0] for n[1] bytes and the release of what it got, n[2] times; the last request's answer */
@@ -28,7 +30,7 @@ struct call {
     uint32_t kind;
     uint32_t lent; /* bytes of the session that are lent */
     uint32_t n[5];
-    uint32_t given; /* bytes that follow: flags, a packet, gates or turnouts */
+    uint32_t given; /* bytes that follow: flags, a packet, gates, turnouts, or a mode trace */
     uint32_t room;  /* bytes of the output that are lent */
     uint32_t watch; /* 1 where the session is to be compared with what it was before the call */
 };
@@ -41,7 +43,7 @@ struct reply {
 
 /* The ends of the three arenas: the session, what is given, the output. */
 static uint8_t *session_end, *given_end, *output_end;
-static uint8_t before[LEAD + LONGER + KB_SESSION_SIZE], as_given[KB_SESSION_SIZE];
+static uint8_t before[LEAD + LONGER + KB_SESSION_SIZE], as_given[GIVEN];
 static struct reply reply;
 
 static void stop(const char *why)
@@ -138,6 +140,20 @@ static void put_step(kb_step_answer a)
     reply.words[3] = a.tie;
 }
 
+static void put_trace(kb_trace_answer a)
+{
+    reply.words[0] = a.answer;
+    reply.words[1] = word(a.entry);
+    reply.words[2] = a.due;
+}
+
+static void put_trace_entry(kb_trace_entry_answer a)
+{
+    reply.words[0] = a.answer;
+    reply.words[1] = a.wrong;
+    reply.words[2] = a.due;
+}
+
 static void put_train(kb_train_answer a)
 {
     int i;
@@ -220,6 +236,8 @@ static void run(const struct call *c, const uint8_t *given, uint8_t *output)
     case FRAME_AGE: put_age(kb_frame_age(c->n[0], c->n[1])); break;
     case NEXT_MODE: put_step(kb_next_mode(c->n[0], given, c->given)); break;
     case NEXT_MODE_PLAIN: put_step(kb_next_mode_plain(c->n[0], given, c->given)); break;
+    case CHECK_TRACE: put_trace(kb_check_trace(given, c->given)); break;
+    case CHECK_TRACE_ENTRY: put_trace_entry(kb_check_trace_entry(c->n[0], given, c->given)); break;
     case SESSION_SIZE: reply.words[0] = word(kb_session_size()); break;
     case LONGEST_RECORD: reply.words[0] = word(kb_longest_record()); break;
     case FILL: memcpy(session_end - KB_SESSION_SIZE, given, KB_SESSION_SIZE); break;
@@ -249,13 +267,13 @@ int main(void)
     struct call c;
     int stale = 1;
     session_end = arena_end(sizeof before);
-    given_end = arena_end(KB_SESSION_SIZE);
+    given_end = arena_end(GIVEN);
     output_end = arena_end(4096);
     setvbuf(stdin, in, _IOFBF, sizeof in);
     setvbuf(stdout, out, _IOFBF, sizeof out);
     while (fread(&c, sizeof c, 1, stdin) == 1) {
         uint8_t *given = given_end - c.given, *output = output_end - c.room;
-        if (c.lent > KB_SESSION_SIZE + LONGER || c.given > KB_SESSION_SIZE || c.room > 4096)
+        if (c.lent > KB_SESSION_SIZE + LONGER || c.given > GIVEN || c.room > 4096)
             stop("more is to be lent than there is");
         read_exactly(given, c.given);
         memcpy(as_given, given, c.given);

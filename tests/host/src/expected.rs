@@ -4,7 +4,7 @@ use crate::wire::{Call, Kind, Reply, PATTERN, SESSION, WORDS};
 use bench_model::recording::{self, run_first, Run};
 use bench_model::session::{Answer, Pair, Session, NONE};
 use bench_model::train::Train;
-use bench_model::{clock, modes, old_gates, packets, turnouts};
+use bench_model::{clock, modes, old_gates, packets, traces, turnouts};
 
 const WRONG_LENGTH: u32 = 34;
 const MOST_RECORDS: u32 = u32::MAX;
@@ -145,7 +145,8 @@ impl Bench {
     }
 }
 
-fn without_session(call: &Call) -> Expected {
+/// The same of a call that needs no session.
+pub fn without_session(call: &Call) -> Expected {
     let [a, b, ..] = call.n;
     match call.kind {
         Kind::FrameAge => {
@@ -157,6 +158,14 @@ fn without_session(call: &Call) -> Expected {
             Ok(step) => Expected::words(&[0, step.mode, step.priority, step.tie]),
             Err(answer) => Expected::words(&[answer]),
         },
+        Kind::CheckTrace => {
+            let told = traces::check_trace(&call.given);
+            Expected::words(&[told.answer, told.entry as u32, told.due])
+        }
+        Kind::CheckTraceEntry => {
+            let told = traces::check_entry(a, &call.given);
+            Expected::words(&[told.answer, told.wrong, told.due])
+        }
         _ => on_packet(call),
     }
 }

@@ -3,7 +3,12 @@
 //!
 //!     bench_host SEED COUNT CALLER [ARGUMENTS]
 //!
-//! The same seed gives the same calls. Or makes the calls that a file holds, and prints a line for each, to be compared:
+//! The same seed gives the same calls. Or does so with mode traces: a series, a long one, and so many random ones with one change each,
+//! all of them as a whole and entry by entry:
+//!
+//!     bench_host --traces SEED COUNT CALLER [ARGUMENTS]
+//!
+//! Or makes the calls that a file holds, and prints a line for each, to be compared:
 //!
 //!     bench_host --cases FILE CALLER [ARGUMENTS]
 //!
@@ -18,6 +23,7 @@ mod moves;
 mod packets;
 mod random;
 mod records;
+mod traces;
 mod turnouts;
 mod wire;
 
@@ -27,16 +33,20 @@ use bench_model::old_gates;
 use bench_model::packets::{self as model_gates, COUNT, LENGTH};
 use bench_model::recording::LONGEST;
 use bench_model::session::{ROWS, SLOTS};
+use bench_model::traces as model_traces;
 use bench_model::turnouts as model_turnouts;
 use calls::Calls;
 use cases::Case;
 use expected::Expected;
 use gates::{DISTANCE, JUDGED, OLD_DISTANCE};
 use mode_steps::Steps;
+use random::Random;
 use std::collections::{BTreeMap, BTreeSet};
 use std::io::{BufReader, Read, Write};
+use std::iter::from_fn;
 use std::process::{ChildStdin, ChildStdout, Command, ExitCode, Stdio};
 use std::sync::mpsc::{sync_channel, Receiver, SyncSender};
+use traces::Verdicts;
 use wire::{Call, Kind, Reply, REPLY_BYTES};
 
 const BATCH: usize = 1_000;
@@ -47,7 +57,8 @@ type Batch = Vec<(Call, Expected)>;
 
 /// Every answer number that a call can give. A run of a million calls or more must have seen each, must have called each function and must
 /// have met each place that a refused read of gates, one of turnouts, and a refused move of gates either way can tell, and each number of
-/// gates or turnouts that they can accept. Both engines must have shown the same, and each what `Steps::missing` looks for.
+/// gates or turnouts that they can accept. Both engines must have shown the same, and each what `Steps::missing` looks for. Each verdict must
+/// have been given of a trace and of an entry.
 const ANSWERS: [u32; 23] = [0, 1, 2, 3, 4, 5, 6, 10, 11, 12, 13, 14, 15, 16, 17, 18, 19, 20, 21, 22, 23, 24, 34];
 
 /// The numbers that the header defines besides the session's size are the model's, or those by which packets are damaged.
@@ -64,6 +75,10 @@ const _: () = assert!(
         && defined("#define KB_MOST_TURNOUTS ") == model_turnouts::MOST_TURNOUTS as u32
         && defined("#define KB_TURNOUT_PACKET_SIZE ") == turnouts::PACKET as u32
         && defined("#define KB_LONGEST_RECORD ") == LONGEST as u32
+        && defined("#define KB_TRACE_ENTRY_SIZE ") == model_traces::ENTRY as u32
+        && defined("    KB_RIGHT = ") == model_traces::RIGHT
+        && defined("    KB_MODE_BEFORE = ") == model_traces::MODE_BEFORE
+        && defined("    KB_MODE_AFTER = ") == model_traces::MODE_AFTER
         && defined("#define KB_LENGTH_AT ") == LENGTH as u32
         && defined("#define KB_COUNT_AT ") == COUNT as u32
         && defined("#define KB_FIRST_GATE_AT ") == model_gates::HEADER_BITS as u32
@@ -84,16 +99,35 @@ const _: () = assert!(
         && defined("#define KB_UNRESTRICTED ") == model_turnouts::UNRESTRICTED
 );
 
-/// Makes the calls and sends them, each batch first to whoever compares.
-fn send(seed: u64, count: u64, mut caller: ChildStdin, compared: SyncSender<Batch>) {
+/// At least so many random calls.
+fn random_calls(seed: u64, count: u64) -> impl Iterator<Item = Batch> {
     let mut calls = Calls::new(seed, count);
     let mut made = 0;
-    while made < count {
+    from_fn(move || {
+        if made >= count {
+            return None;
+        }
         let mut batch = Batch::new();
         while batch.len() < BATCH {
             batch.extend(calls.next());
         }
         made += batch.iter().filter(|(call, _)| call.kind.is_call()).count() as u64;
+        Some(batch)
+    })
+}
+
+/// These calls, which need no session. All batches but the last are whole, since the caller hands its replies on only where they are many.
+fn without_session(calls: impl Iterator<Item = Call>) -> impl Iterator<Item = Batch> {
+    let mut calls = calls.map(|call| {
+        let expected = expected::without_session(&call);
+        (call, expected)
+    });
+    from_fn(move || Some(calls.by_ref().take(BATCH).collect()).filter(|batch: &Batch| !batch.is_empty()))
+}
+
+/// Makes the calls and sends them, each batch first to whoever compares.
+fn send(batches: impl Iterator<Item = Batch>, mut caller: ChildStdin, compared: SyncSender<Batch>) {
+    for batch in batches {
         let mut bytes = Vec::new();
         for (n, (call, expected)) in batch.iter().enumerate() {
             call.put(expected.watches(call, n % WATCHED == 0), &mut bytes);
@@ -154,6 +188,8 @@ struct Seen {
     back: Reads,
     steps: Steps,
     plain_steps: Steps,
+    traces: Verdicts,
+    entries: Verdicts,
     /// Framings that were refused with a place that is not 0.
     placed_frames: u64,
     answers: BTreeMap<u32, u64>,
@@ -175,7 +211,13 @@ impl Seen {
         let steps = self.engines().into_iter().find_map(|(engine, steps)| steps.missing(engine));
         let other =
             (self.steps != self.plain_steps).then(|| "the steps by the two engines have not shown the same".into());
-        answer.or(kind).or(gates).or(forward).or(back).or(turnouts).or(frame).or(steps).or(other)
+        let traces = self.missing_verdict();
+        answer.or(kind).or(gates).or(forward).or(back).or(turnouts).or(frame).or(steps).or(other).or(traces)
+    }
+
+    /// A verdict that was not given of a trace, or of an entry.
+    fn missing_verdict(&self) -> Option<String> {
+        self.traces.missing("trace").or(self.entries.missing("entry"))
     }
 
     /// What the steps by each engine have shown.
@@ -207,9 +249,18 @@ impl Seen {
             Kind::ReadTurnouts => self.turnouts.note(call, reply),
             Kind::NextMode => self.steps.note(call, reply),
             Kind::NextModePlain => self.plain_steps.note(call, reply),
+            Kind::CheckTrace => self.traces.note(call, reply),
+            Kind::CheckTraceEntry => self.entries.note(call, reply),
             _ => {}
         }
     }
+}
+
+/// A call in words, which are cut where they are very many.
+fn shown(call: &Call) -> String {
+    let mut words = format!("{call:?}");
+    words.truncate(100_000);
+    words
 }
 
 /// The next reply, of a call by its number in the run.
@@ -218,14 +269,14 @@ fn reply_to(call: &Call, number: u64, caller: &mut impl Read) -> Result<Reply, S
     let mut output = vec![0; call.room as usize];
     let read = caller.read_exact(&mut head).and_then(|()| caller.read_exact(&mut output));
     // Answers that the caller had not yet handed on are lost with it.
-    read.map_err(|error| format!("no answer from call {number} on ({error}): {call:?}"))?;
+    read.map_err(|error| format!("no answer from call {number} on ({error}): {}", shown(call)))?;
     Ok(Reply::of(&head, output))
 }
 
 /// What a reply is held to, or what is wrong with it.
 fn judge(call: &Call, number: u64, expected: &Expected, reply: &Reply) -> Result<(), String> {
     match expected.fault(call, reply) {
-        Some(fault) => Err(format!("call {number}: {call:?}\nanswers {reply:?}\n{fault}")),
+        Some(fault) => Err(format!("call {number}: {}\nanswers {reply:?}\n{fault}", shown(call))),
         None => Ok(()),
     }
 }
@@ -287,14 +338,10 @@ fn drive<T>(
     }
 }
 
-fn run(seed: u64, count: u64, command: &[String]) -> Result<Seen, String> {
+fn run(batches: impl Iterator<Item = Batch> + Send + 'static, command: &[String]) -> Result<Seen, String> {
     let (sender, receiver) = sync_channel(16);
-    let sending = move |caller| send(seed, count, caller, sender);
-    let seen = drive(command, sending, |caller| compare(caller, receiver))?;
-    if count >= 1_000_000 {
-        seen.missing().map_or(Ok(()), Err)?;
-    }
-    Ok(seen)
+    let sending = move |caller| send(batches, caller, sender);
+    drive(command, sending, |caller| compare(caller, receiver))
 }
 
 /// Makes the calls of a file's cases, each watched, and prints their lines.
@@ -311,7 +358,10 @@ fn run_cases(file: &str, command: &[String]) -> Result<(), String> {
 }
 
 fn run_random(seed: u64, count: u64, command: &[String]) -> Result<(), String> {
-    let seen = run(seed, count, command).map_err(|fault| format!("seed {seed}, {fault}"))?;
+    let seen = run(random_calls(seed, count), command)?;
+    if count >= 1_000_000 {
+        seen.missing().map_or(Ok(()), Err)?;
+    }
     let listed: Vec<String> = seen.answers.iter().map(|(answer, times)| format!("{answer}: {times}")).collect();
     println!("host: answers {}", listed.join(", "));
     println!("host: {} of the frame ages over midnight", seen.over_midnight);
@@ -322,6 +372,7 @@ fn run_random(seed: u64, count: u64, command: &[String]) -> Result<(), String> {
     println!("host: {} gate reads and {} turnout reads of damaged packets", seen.gates.damaged, seen.turnouts.damaged);
     print_moves(&seen.forward, &seen.back);
     seen.engines().into_iter().for_each(|(engine, steps)| print_steps(engine, steps));
+    print_verdicts(&seen.traces, &seen.entries);
     println!(
         "host: {} calls tried with seed {seed}, {} of them on foreign sessions: no difference",
         seen.calls, seen.foreign
@@ -345,22 +396,59 @@ fn print_steps(engine: &str, steps: &Steps) {
     );
 }
 
+fn print_verdicts(traces: &Verdicts, entries: &Verdicts) {
+    println!("host: {} mode traces: {}", traces.count(), traces.listed());
+    println!("host: {} entries of mode traces: {}", entries.count(), entries.listed());
+}
+
+/// A run of a thousand random traces or more must have given each verdict of a trace and of an entry.
+fn run_traces(seed: u64, count: u64, command: &[String]) -> Result<(), String> {
+    let mut random = Random::new(seed);
+    let series = run(without_session(traces::series().chain(traces::long(&mut random))), command)?;
+    println!(
+        "host: a series of {} mode traces, the last of {} entries, as a whole and entry by entry: no difference",
+        series.traces.count(),
+        traces::LONG
+    );
+    let changed = (0..count).flat_map(move |_| traces::one_change(&mut random));
+    let seen = run(without_session(changed), command)?;
+    if count >= 1_000 {
+        seen.missing_verdict().map_or(Ok(()), Err)?;
+    }
+    print_verdicts(&seen.traces, &seen.entries);
+    println!("host: {count} random mode traces with one change each tried with seed {seed}: no difference");
+    Ok(())
+}
+
+/// Runs with the seed and the count that the words begin with and the command behind them, where they are that.
+fn seeded(words: &[String], run: fn(u64, u64, &[String]) -> Result<(), String>) -> Option<Result<(), String>> {
+    let [seed, count, command @ ..] = words else {
+        return None;
+    };
+    let (seed, count) = (seed.parse().ok()?, count.parse().ok()?);
+    (!command.is_empty()).then(|| run(seed, count, command).map_err(|fault| format!("seed {seed}, {fault}")))
+}
+
+/// Runs what the words ask for, where they ask for something.
+fn asked(words: &[String]) -> Option<Result<(), String>> {
+    match words {
+        [word, file, command @ ..] if word == "--cases" && !command.is_empty() => Some(run_cases(file, command)),
+        [word, words @ ..] if word == "--traces" => seeded(words, run_traces),
+        words => seeded(words, run_random),
+    }
+}
+
 fn main() -> ExitCode {
     let words: Vec<String> = std::env::args().skip(1).collect();
-    let numbers = words.iter().take(2).map(|word| word.parse::<u64>()).collect::<Result<Vec<_>, _>>();
-    let run = match (&words[..], numbers.as_deref()) {
-        ([_, _, command @ ..], Ok(&[seed, count])) if !command.is_empty() => run_random(seed, count, command),
-        ([word, file, command @ ..], _) if word == "--cases" && !command.is_empty() => run_cases(file, command),
-        _ => {
-            eprintln!("usage: bench_host SEED COUNT CALLER [ARGUMENTS], or --cases FILE CALLER [ARGUMENTS]");
-            return ExitCode::from(2);
-        }
-    };
-    match run {
-        Ok(()) => ExitCode::SUCCESS,
-        Err(fault) => {
+    match asked(&words) {
+        Some(Ok(())) => ExitCode::SUCCESS,
+        Some(Err(fault)) => {
             println!("host: A DIFFERENCE: {fault}");
             ExitCode::FAILURE
+        }
+        None => {
+            eprintln!("usage: bench_host [--traces] SEED COUNT CALLER [ARGUMENTS], or --cases FILE CALLER [ARGUMENTS]");
+            ExitCode::from(2)
         }
     }
 }

@@ -2,7 +2,7 @@
 
 use crate::random::Random;
 use crate::wire::{Call, Kind, Reply};
-use bench_model::modes::{ties, Transition, FLAGS, TRANSITIONS};
+use bench_model::modes::{self, ties, Transition, FLAGS, TRANSITIONS};
 use std::collections::BTreeSet;
 use std::iter::once;
 use std::ops::RangeInclusive;
@@ -32,6 +32,24 @@ fn conditions(transition: &Transition) -> Vec<usize> {
     (1..=FLAGS).filter(|&n| lists(transition, n)).collect()
 }
 
+/// Every condition that opens a transition of a mode that may be none.
+pub fn listed(mode: u32) -> Vec<usize> {
+    leaving(mode).iter().flat_map(conditions).collect()
+}
+
+/// Opens every transition of a mode that has the priority of the one that is taken under these flags.
+pub fn open_equals(random: &mut Random, mode: u32, flags: &mut [u8]) {
+    let taken = modes::step(mode, flags).expect("a mode and flags").priority;
+    for equal in leaving(mode).iter().filter(|t| t.priority == taken) {
+        flags[random.pick(&conditions(equal)) - 1] = 1;
+    }
+}
+
+/// The flags of which those of a set of conditions are 1.
+pub fn flags_of(set: &[usize]) -> Vec<u8> {
+    (1..=FLAGS).map(|n| u8::from(set.contains(&n))).collect()
+}
+
 /// The pairs of conditions that open two transitions of a mode.
 fn pairs(mode: u32) -> impl Iterator<Item = [usize; 2]> {
     let all = (1..=FLAGS).flat_map(|one| (one + 1..=FLAGS).map(move |other| [one, other]));
@@ -52,7 +70,7 @@ pub fn series() -> impl Iterator<Item = Call> {
 fn accepted(mode: u32) -> impl Iterator<Item = Call> {
     let single = (1..=FLAGS).map(|one| vec![one]);
     let sets = once(vec![]).chain(single).chain(pairs(mode).map(Vec::from)).chain(once((1..=FLAGS).collect()));
-    sets.map(move |set| step(mode, (1..=FLAGS).map(|n| u8::from(set.contains(&n))).collect()))
+    sets.map(move |set| step(mode, flags_of(&set)))
 }
 
 /// Too few and too many flags, and a byte that is no flag at the first place, in the middle and at the last.
@@ -102,7 +120,7 @@ pub fn flags_for(random: &mut Random, mode: u32) -> Vec<u8> {
 
 /// Any flags, from few to nearly all. Where many are set the best transitions of the mode are open nearly always, and no other is taken:
 /// so mostly one that is drawn is open, and those that are better are not.
-fn any_flags(random: &mut Random, mode: u32) -> Vec<u8> {
+pub fn any_flags(random: &mut Random, mode: u32) -> Vec<u8> {
     let percent = random.pick(&[2, 5, 10, 25, 50, 75, 98]);
     let mut flags: Vec<u8> = (0..FLAGS).map(|_| u8::from(random.chance(percent))).collect();
     let leaving: Vec<&Transition> = leaving(mode).iter().collect();

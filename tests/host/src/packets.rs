@@ -1,8 +1,8 @@
-//! Calls that need no session: packets that are sound, damaged, cut and random, mode steps and frame ages.
+//! Calls that need no session: packets that are sound, damaged, cut and random, mode steps, mode traces and frame ages.
 
 use crate::random::Random;
 use crate::wire::{Call, Kind};
-use crate::{gates, mode_steps, moves, turnouts};
+use crate::{gates, mode_steps, moves, traces, turnouts};
 use bench_model::packets::{COUNT, GATE_BYTES, LENGTH};
 use bench_model::turnouts::{MOST_TURNOUTS, TURNOUT_BYTES};
 
@@ -10,7 +10,7 @@ use bench_model::turnouts::{MOST_TURNOUTS, TURNOUT_BYTES};
 const DAMAGED: u32 = 80;
 
 pub fn call(random: &mut Random) -> Call {
-    match random.below(23) {
+    match random.below(24) {
         0 => {
             let sound = if random.chance(70) { gates::sound(random) } else { turnouts::sound(random) };
             Call::new(Kind::Frame, &[]).with(sound.altered(random, DAMAGED).0)
@@ -21,7 +21,8 @@ pub fn call(random: &mut Random) -> Call {
         10 => write(random, Kind::WriteTurnouts, turnouts::list, turnouts::PACKET),
         11 => frame_age(random),
         12..=21 => moves::call(random),
-        _ => mode_steps::call(random),
+        22 => mode_steps::call(random),
+        _ => traces::call(random),
     }
 }
 

@@ -2,8 +2,7 @@
 
 use crate::random::Random;
 use crate::wire::{Call, Kind};
-
-const MARK: [u8; 2] = [0x4B, 0x56];
+use bench_model::recording::MARK;
 
 /// The payload of an operation. Numbers are cut to the record's widths.
 fn payload(call: &Call) -> Vec<u8> {

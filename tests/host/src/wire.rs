@@ -40,6 +40,8 @@ pub enum Kind {
     FrameAge,
     NextMode,
     NextModePlain,
+    CheckTrace,
+    CheckTraceEntry,
     SessionSize,
     RunRecord,
     LongestRecord,
