@@ -1,6 +1,6 @@
 /* A small host: gates are read, and moved from the old form to the new one and back, turnouts are written and read, and a refusal is said
- * in words; two trains are registered and move, one gets an authority, an SOS limits it, and a step back takes the SOS back. README says
- * how to build and run it. */
+ * in words; a mode trace is checked; two trains are registered and move, one gets an authority, an SOS limits it, and a step back takes the
+ * SOS back. README says how to build and run it. */
 #include "../include/kavach_bench.h"
 #include <stdio.h>
 #include <stdlib.h>
@@ -130,6 +130,43 @@ static void try_turnouts(void)
     print_turnouts(packet, written.bytes);
 }
 
+/* Checks a mode trace, and says whether it is right or which entry is not. */
+static void print_trace(const uint8_t *trace, size_t length)
+{
+    kb_trace_answer checked = kb_check_trace(trace, length);
+
+    if (checked.answer != KB_ACCEPTED)
+        printf("trace refused %u at entry %u\n", (unsigned)checked.answer, (unsigned)checked.entry);
+    else if (checked.entry != 0)
+        printf("trace wrong at entry %u, where mode %u was due\n", (unsigned)checked.entry, (unsigned)checked.due);
+    else
+        printf("trace right\n");
+}
+
+/* Puts an entry of a mode trace, in which one condition is set. */
+static void put_entry(uint8_t *entry, uint8_t before, size_t condition, uint8_t after)
+{
+    memset(entry, 0, KB_TRACE_ENTRY_SIZE);
+    entry[0] = 0x4B;
+    entry[1] = 0x56;
+    entry[2] = before;
+    entry[2 + condition] = 1;
+    entry[KB_TRACE_ENTRY_SIZE - 1] = after;
+}
+
+/* Checks a trace in which SB goes to OS (64), and OS to TR (69); then the same with FS in the place of TR, whole and cut. */
+static void try_traces(void)
+{
+    uint8_t trace[2 * KB_TRACE_ENTRY_SIZE];
+
+    put_entry(trace, 1, 64, 6);
+    put_entry(trace + KB_TRACE_ENTRY_SIZE, 6, 69, 7);
+    print_trace(trace, sizeof trace);
+    put_entry(trace + KB_TRACE_ENTRY_SIZE, 6, 69, 4);
+    print_trace(trace, sizeof trace);
+    print_trace(trace, sizeof trace - 1);
+}
+
 /* Prints an answer, and gives it on. */
 static kb_answer told(const char *what, kb_answer given)
 {
@@ -188,6 +225,7 @@ int main(void)
     print_gates(third, sizeof third);
     try_moves();
     try_turnouts();
+    try_traces();
     printf("frame age %u\n", (unsigned)kb_frame_age(20, 11).age);
 
     accepted("start", kb_start(KB_LEND(&bench)));
