@@ -7,8 +7,6 @@ what was written before; words, files and streams of all sorts; and the samples.
 """
 
 import collections
-import contextlib
-import os
 import pathlib
 import random
 import re
@@ -16,6 +14,7 @@ import subprocess
 import sys
 import tempfile
 
+import programs
 import recordings
 
 ROOT = pathlib.Path(__file__).resolve().parent.parent
@@ -105,24 +104,8 @@ def packed(form, lists):
 # The program.
 
 
-class Bench:
-    """The program, and what it did that it should not."""
-
-    def __init__(self, path, folder):
-        self.path = path
-        self.file = folder / "gates"
-        self.runs = 0
-        self.wrong = []
-
-    def run(self, words, given=b"", output=subprocess.PIPE):
-        """Exit status, output and messages."""
-        self.runs += 1
-        ended = subprocess.run([self.path, *words], input=given, stdout=output, stderr=subprocess.PIPE, check=False)
-        return ended.returncode, ended.stdout, ended.stderr
-
-    def compare(self, what, found, wanted):
-        if found != wanted:
-            self.wrong.append(f"{what}: {shortened(found)}, and it should be {shortened(wanted)}")
+class Bench(programs.Bench):
+    """The program, and how its moves are judged."""
 
     def judge(self, what, found, output, refusal=None):
         """Compares what a run gave with its output, and with its refusal if it has one."""
@@ -135,18 +118,6 @@ class Bench:
         """Moves a file, and compares."""
         self.file.write_bytes(data)
         self.judge(f"{what}, {way}", self.run(["gates", way, self.file]), output, refusal)
-
-    def not_done(self, what, words, output=subprocess.PIPE):
-        """What could not be done has status 2 and a message, and writes nothing."""
-        status, written, messages = self.run(words, output=output)
-        self.compare(what, (status, written or b"", messages != b""), (2, b"", True))
-        return messages
-
-
-def shortened(value):
-    """A value in a message, however long."""
-    text = str(value)
-    return text if len(text) <= 300 else f"{text[:300]}... ({len(text)} characters)"
 
 
 # What is tried.
@@ -256,20 +227,6 @@ def refusals(bench, chance):
             bench.moved(wrong.hex(" "), way, data + wrong + behind, packed(target, before), refusal)
 
 
-def in_pieces(bench, way, data, chance):
-    """A run whose standard input comes in small pieces."""
-    bench.runs += 1
-    with subprocess.Popen([bench.path, "gates", way], bufsize=0, stdin=subprocess.PIPE, stdout=subprocess.PIPE, stderr=subprocess.PIPE) as program:
-        # A program that has ended already is found out by what it gave.
-        with contextlib.suppress(BrokenPipeError):
-            while data:
-                cut = chance.randint(1, 9)
-                program.stdin.write(data[:cut])
-                data = data[cut:]
-        output, messages = program.communicate()
-    return program.returncode, output, messages
-
-
 def streams(bench, chance):
     """Files and streams of all sorts."""
     lists = some_lists(chance, 29)
@@ -279,24 +236,17 @@ def streams(bench, chance):
         bench.judge("nothing on standard input", bench.run(["gates", way]), b"")
         bench.judge("standard input", bench.run(["gates", way], given=data), output)
         bench.judge("standard input that is cut", bench.run(["gates", way], given=data + b"0"), output, Refusal(30, len(data), 1, 0))
-        bench.judge("standard input in pieces", in_pieces(bench, way, data, chance), output)
+        bench.judge("standard input in pieces", bench.run_in_pieces(["gates", way], programs.in_pieces(chance, data, 9)), output)
         bench.file.write_bytes(data)
-        bench.not_done("a file that is not there", ["gates", way, bench.file.with_name("none")])
-        bench.not_done("a folder", ["gates", way, bench.file.parent])
-        with open("/dev/full", "wb") as full:
-            bench.not_done("a full disk", ["gates", way, bench.file], full)
-        reader, writer = os.pipe()
-        os.close(reader)
-        bench.not_done("a closed pipe", ["gates", way, bench.file], writer)
-        os.close(writer)
+        bench.not_read(["gates", way])
+        bench.not_written(["gates", way, bench.file])
 
 
 def wrong_words(bench, chance):
     """Words that the program does not know."""
     bench.file.write_bytes(packed("old", some_lists(chance, 1)))
     for words in ([], ["sideways"], ["Forward", bench.file], [bench.file], ["forward", bench.file, bench.file], ["forward", "back", bench.file]):
-        messages = bench.not_done(f"the words {words}", ["gates", *words])
-        bench.compare(f"the words {words}", b"usage" in messages, True)
+        bench.not_known(["gates", *words])
 
 
 # The samples.
@@ -330,13 +280,11 @@ def samples(bench):
 def main(words):
     path, count, seed = words[0], recordings.number(words, 1, 60), recordings.number(words, 2, 7)
     chance = random.Random(seed)
-    # A program that must be built first says so on standard error.
-    try:
-        subprocess.run([path, "gates", "forward", "/dev/null"], stdout=subprocess.DEVNULL, stderr=subprocess.DEVNULL, check=False)
-    except OSError as problem:
-        return f"{path} cannot be run: {problem.strerror}"
+    problem = programs.build(path, ["gates", "forward"])
+    if problem is not None:
+        return problem
     with tempfile.TemporaryDirectory() as folder:
-        bench = Bench(path, pathlib.Path(folder))
+        bench = Bench(path, pathlib.Path(folder) / "gates")
         round_trips(bench, count, chance)
         refusals(bench, chance)
         streams(bench, chance)

@@ -5,20 +5,11 @@ The bytes of lines written out and written short; the message for each sort of b
 files shown and made again; and input and output that cannot be read or written.
 """
 
-import codecs
-import contextlib
-import importlib.machinery
-import importlib.util
-import io
-import os
-import pathlib
 import random
-import subprocess
 import sys
 
 import gate_files
-
-TOOL = pathlib.Path(__file__).resolve().parent.parent / "tools" / "gates"
+import line_tools
 
 GATE = "gate 650 m, number 12, suffix a, manned, class B1, whistling yes, type distance"
 
@@ -81,45 +72,16 @@ DAMAGES = (
 )
 
 
-def load():
-    """The tool as a module."""
-    loader = importlib.machinery.SourceFileLoader("gates", str(TOOL))
-    module = importlib.util.module_from_spec(importlib.util.spec_from_loader("gates", loader))
-    loader.exec_module(module)
-    return module
-
-
-def made(tool, lines):
-    """Exit status, gate file and messages of make."""
-    output, messages = io.BytesIO(), io.StringIO()
-    with contextlib.redirect_stderr(messages):
-        status = tool.make(io.BytesIO(lines), output)
-    return status, output.getvalue(), messages.getvalue()
+def lines(tool):
+    """Lines, good and bad."""
+    yield from tool.good_lines((text, bytes.fromhex(bytes_)) for text, bytes_ in GOOD_LINES)
+    for before, line, message in BAD_LINES:
+        yield from tool.bad_line(before, line, "old", message)
+    yield from tool.byte_order_marks(b"old\n")
 
 
 def shown(tool, form, file):
-    """Exit status, lines and messages of show."""
-    output, messages = io.BytesIO(), io.StringIO()
-    with contextlib.redirect_stderr(messages):
-        status = tool.show(tool.FORMS[form], io.BytesIO(file), output)
-    return status, output.getvalue(), messages.getvalue()
-
-
-def lines(tool):
-    """Lines, good and bad."""
-    for text, bytes_ in GOOD_LINES:
-        if made(tool, text.encode()) != (0, bytes.fromhex(bytes_), ""):
-            yield f"'{text}': {made(tool, text.encode())}"
-    for before, line, message in BAD_LINES:
-        text = f"{before}\n{line}\nold\n"
-        status, file, messages = made(tool, text.encode())
-        at = before.count("\n") + 2
-        if status != 1 or file or not messages.startswith(f"gates: line {at}: ") or message not in messages.splitlines()[0]:
-            yield f"'{line}': {messages}"
-    for mark in (codecs.BOM_UTF8, codecs.BOM_UTF16_LE, codecs.BOM_UTF16_BE):
-        message = "gates: line 1: it begins with a byte order mark: save the lines as UTF-8 without one\n"
-        if made(tool, mark + b"old\n") != (1, b"", message):
-            yield f"a byte order mark: {made(tool, mark)}"
+    return tool.shown(file, tool.module.FORMS[form])
 
 
 def damages(tool):
@@ -165,56 +127,23 @@ def again(tool, tries):
         sort, form = sorts[at % len(sorts)], ("old", "new")[at // len(sorts) % 2]
         file = sort(chance, form)
         status, text, messages = shown(tool, form, file)
-        if status != int(messages != "") or (sort is sound and status) or made(tool, text) != (0, file, ""):
+        if status != int(messages != "") or (sort is sound and status) or tool.made(text) != (0, file, ""):
             yield f"not the same again: {form} {file.hex(' ')}"
 
 
-def ended(words, source, output):
-    """Exit status and messages of the tool run by itself."""
-    run = subprocess.run([TOOL, *words], stdin=source, stdout=output, stderr=subprocess.PIPE, check=False)
-    return run.returncode, run.stderr.decode()
-
-
-def streams():
-    """Input and output that cannot be read or written: a plain line, and never a traceback."""
+def runs(tool):
+    """The tool run by itself."""
     for words in (["make"], ["show", "old"], ["show", "new"]):
-        with open("/dev/full", "wb") as full, open(os.devnull, "rb") as nothing:
-            folder = os.open("/", os.O_RDONLY)
-            if ended(words, folder, subprocess.DEVNULL) != (2, "gates: standard input is a folder: give a file\n"):
-                yield f"{words} of a folder"
-            os.close(folder)
-            if ended(words, nothing, full) != (0, ""):
-                yield f"{words} of nothing"
-        if subprocess.run(["sh", "-c", f'"$0" {" ".join(words)} <&-', TOOL], stderr=subprocess.PIPE, check=False).stderr.count(b"\n") != 1:
-            yield f"{words} without an input"
-    reader, writer = os.pipe()
-    os.close(reader)
+        yield from tool.streams(words)
     for form in ("old", "new"):
-        sample = gate_files.SAMPLES / f"28-gates.{form}"
-        with open("/dev/full", "wb") as full, sample.open("rb") as source:
-            if ended(["show", form], source, full) != (2, "gates: could not read or write: No space left on device\n"):
-                yield f"a full disk: {form}"
-        with sample.open("rb") as source:
-            if ended(["show", form], source, writer) != (0, ""):
-                yield f"a closed pipe: {form}"
-    os.close(writer)
-
-
-def help_text():
-    """How lines are written fits on a screen, and wrong words give the same."""
-    asked = subprocess.run([TOOL, "--help"], stdout=subprocess.PIPE, check=False)
-    text = asked.stdout.decode()
-    if asked.returncode or len(text.splitlines()) > 24 or max(map(len, text.splitlines())) > 80:
-        yield "--help does not fit on a screen"
-    for words in ([], ["show"], ["show", "older"], ["make", "old"], ["show", "old", "new"], ["help"]):
-        if ended(words, subprocess.DEVNULL, subprocess.DEVNULL) != (2, text):
-            yield f"the words {words}"
+        yield from tool.unwritten(["show", form], gate_files.SAMPLES / f"28-gates.{form}")
+    yield from tool.help_text(([], ["show"], ["show", "older"], ["make", "old"], ["show", "old", "new"], ["help"]))
 
 
 def main():
     sys.dont_write_bytecode = True
-    tool, tries = load(), 600
-    wrong = [*lines(tool), *damages(tool), *again(tool, tries), *streams(), *help_text()]
+    tool, tries = line_tools.LineTool("gates"), 600
+    wrong = [*lines(tool), *damages(tool), *again(tool, tries), *runs(tool)]
     counts = f"{len(GOOD_LINES)} good lines, {len(BAD_LINES)} bad ones, {len(DAMAGES)} damages and {tries} gate files"
     print(*wrong, f"{counts}, {len(wrong)} differences", sep="\n")
     return 1 if wrong else 0
