@@ -78,31 +78,36 @@ def those(*numbers):
     return [int(k in numbers) for k in range(1, 92)]
 
 
-for m in range(1, 14):
-    for n in range(92):
-        print("step", m, n, *both(m, those(n)))
-    print("step", m, "all", *both(m, [1] * 91))
-for name, a, b in [("FS", 71, 76), ("FS", 69, 2), ("SB", 60, 62), ("SR", 45, 56), ("LS", 17, 90), ("FS", 56, 58), ("OS", 71, 58),
-                   ("PT", 86, 58), ("SB", 77, 60)]:
-    print("two", NUMBER[name], a, b, *both(NUMBER[name], those(a, b)))
-for name, a, b, c in [
-        # a tie, then a better one, which clears the mark: each mode and priority that can tie
-        ("SB", 60, 62, 2), ("SB", 60, 62, 5), ("SB", 61, 53, 5), ("SR", 45, 56, 53), ("LS", 17, 90, 53), ("LS", 58, 56, 53),
-        ("FS", 71, 76, 69), ("FS", 58, 56, 53), ("OS", 71, 58, 53), ("PT", 86, 58, 5),
-        # a better one between the two that share a priority, twice, and before them: no mark
-        ("SB", 60, 62, 61), ("OS", 71, 58, 69), ("FS", 71, 76, 17),
-        # a worse one behind a tie, twice, before it, twice, and between the two that tie: the mark stands
-        ("FS", 71, 76, 58), ("LS", 17, 90, 58), ("SR", 45, 56, 87), ("SB", 61, 53, 60), ("SB", 61, 62, 53),
-        # three that tie, twice; two that tie, of which one is open by both its conditions
-        ("SB", 60, 62, 63), ("OS", 71, 58, 56), ("SB", 77, 60, 62)]:
-    print("three", NUMBER[name], a, b, c, *both(NUMBER[name], those(a, b, c)))
-for m in 0, 14, 257, 4294967295:
-    print("mode", m, *both(m, those(2)))
-print("flags 90", *both(1, [1] * 90))
-print("flags 92", *both(1, [1] * 92))
-print("flag 2", *both(1, [2] * 91))
-for station, onboard in [(20, 11), (500, 500), (503, 500), (504, 500), (509, 500), (510, 500), (529, 500), (530, 500), (1, 1),
-                         (86400, 86400), (86400, 1), (1, 86400), (1, 86399), (2, 86399), (3, 86399), (8, 86399), (9, 86399),
-                         (28, 86399), (29, 86399), (11, 20), (1, 2), (86399, 86400), (0, 0), (1, 0), (0, 1), (0, 86400), (86400, 0),
-                         (86401, 1), (1, 86401), (86401, 86400), (86401, 86401), (4294967295, 1), (4294967295, 4294967295)]:
-    print("age", station, onboard, *age(station, onboard))
+def main():
+    for m in range(1, 14):
+        for n in range(92):
+            print("step", m, n, *both(m, those(n)))
+        print("step", m, "all", *both(m, [1] * 91))
+    for name, a, b in [("FS", 71, 76), ("FS", 69, 2), ("SB", 60, 62), ("SR", 45, 56), ("LS", 17, 90), ("FS", 56, 58), ("OS", 71, 58),
+                       ("PT", 86, 58), ("SB", 77, 60)]:
+        print("two", NUMBER[name], a, b, *both(NUMBER[name], those(a, b)))
+    for name, a, b, c in [
+            # a tie, then a better one, which clears the mark: each mode and priority that can tie
+            ("SB", 60, 62, 2), ("SB", 60, 62, 5), ("SB", 61, 53, 5), ("SR", 45, 56, 53), ("LS", 17, 90, 53), ("LS", 58, 56, 53),
+            ("FS", 71, 76, 69), ("FS", 58, 56, 53), ("OS", 71, 58, 53), ("PT", 86, 58, 5),
+            # a better one between the two that share a priority, twice, and before them: no mark
+            ("SB", 60, 62, 61), ("OS", 71, 58, 69), ("FS", 71, 76, 17),
+            # a worse one behind a tie, twice, before it, twice, and between the two that tie: the mark stands
+            ("FS", 71, 76, 58), ("LS", 17, 90, 58), ("SR", 45, 56, 87), ("SB", 61, 53, 60), ("SB", 61, 62, 53),
+            # three that tie, twice; two that tie, of which one is open by both its conditions
+            ("SB", 60, 62, 63), ("OS", 71, 58, 56), ("SB", 77, 60, 62)]:
+        print("three", NUMBER[name], a, b, c, *both(NUMBER[name], those(a, b, c)))
+    for m in 0, 14, 257, 4294967295:
+        print("mode", m, *both(m, those(2)))
+    print("flags 90", *both(1, [1] * 90))
+    print("flags 92", *both(1, [1] * 92))
+    print("flag 2", *both(1, [2] * 91))
+    for station, onboard in [(20, 11), (500, 500), (503, 500), (504, 500), (509, 500), (510, 500), (529, 500), (530, 500), (1, 1),
+                             (86400, 86400), (86400, 1), (1, 86400), (1, 86399), (2, 86399), (3, 86399), (8, 86399), (9, 86399),
+                             (28, 86399), (29, 86399), (11, 20), (1, 2), (86399, 86400), (0, 0), (1, 0), (0, 1), (0, 86400), (86400, 0),
+                             (86401, 1), (1, 86401), (86401, 86400), (86401, 86401), (4294967295, 1), (4294967295, 4294967295)]:
+        print("age", station, onboard, *age(station, onboard))
+
+
+if __name__ == "__main__":
+    main()
