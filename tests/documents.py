@@ -2,8 +2,8 @@
 """Holds the documents to what they speak of: tests/documents.py
 
 The answer numbers of ANSWERS.md, the bits of a gate's fields in both forms, and the way from a place to a turnout are those of the C header; the
-examples of README.md, RECORDING.md and GATES.md are what the samples, the tools and the program give; README.md has every crate, and the samples' own
-pages every sample; every link leads to a file. The exit status is 1 where something is not so.
+examples of README.md, RECORDING.md, GATES.md and TRACES.md are what the samples, the tools and the programs give; README.md has every crate, and the
+samples' own pages every sample; every link leads to a file. The exit status is 1 where something is not so.
 """
 
 import pathlib
@@ -96,8 +96,8 @@ def kinds():
 
 
 def commands():
-    """What a command prints that stands in RECORDING.md or GATES.md behind a $."""
-    for path in (DOCS / "RECORDING.md", DOCS / "GATES.md"):
+    """What a command prints that stands in RECORDING.md, GATES.md or TRACES.md behind a $."""
+    for path in (DOCS / "RECORDING.md", DOCS / "GATES.md", DOCS / "TRACES.md"):
         blocks = re.findall(r"```\n\$ (.*)\n((?:.*\n)*?)```", text(path))
         if not blocks:
             yield f"{path.name} shows no command"
@@ -115,6 +115,7 @@ def lists():
         yield f"README.md and crates.txt differ in {sorted(crates ^ listed)}"
     yield from samples(SAMPLES, (".rec", ".txt", ".lst"))
     yield from samples(SAMPLES / "gates", (".txt", ".old", ".new"))
+    yield from samples(SAMPLES / "traces", (".txt", ".trace"))
 
 
 def samples(folder, suffixes):
