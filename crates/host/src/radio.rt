@@ -1,11 +1,13 @@
-// What needs no session: a sub-packet's frame, gates and turnouts read and written, gates moved between their two forms, the age of a frame, and the
-// mode step by either engine.
+// What needs no session: a sub-packet's frame, gates and turnouts read and written, gates moved between their two forms, the age of a frame, the mode
+// step by either engine, and a vendor's mode trace checked.
 use clock::FrameAge;
 use gate_moving::GatesMoved;
 use gates::forms::Form;
 use modes::Step;
 use profiles::EntriesRead;
 use profiles::EntriesWritten;
+use traces::entry::Judged;
+use traces::walk::Checked;
 ghost use mathlib.Core.Path.{_≡_};
 ghost use Rattle.clock.specs.Age.{frameAge};
 ghost use Rattle.modes.specs.Next.{nextStep};
@@ -15,6 +17,8 @@ ghost use Rattle.profiles.specs.Writing.{writeAnswer, writeInto};
 ghost use Rattle.gates.specs.Gates.{gateProfile, mostGates};
 ghost use Rattle.gates.specs.{declared.forms.Form.the-variants.Old, declared.forms.Form.the-variants.New};
 ghost use Rattle.gate_moving.specs.Moving.{moveAnswer, moveInto};
+ghost use Rattle.traces.specs.Entry.{judged};
+ghost use Rattle.traces.specs.Trace.{checked};
 ghost use Rattle.turnouts.specs.Turnouts.{turnoutProfile, mostTurnouts};
 ghost use Rattle.host.specs.Frame.{frameAnswer};
 
@@ -110,4 +114,19 @@ pub extern "C" fn kb_next_mode_plain(mode: u32, flags: &[u8]) -> Step
     ensures { λ r. ⌜ r ≡ plainStep mode (now (flags .entry)) ⌝ }
 {
     modes::plain::next_mode(mode, flags)
+}
+
+#[no_mangle]
+pub extern "C" fn kb_check_trace(trace: &[u8]) -> Checked
+    ensures { λ r. ⌜ r ≡ checked (now (trace .entry)) ⌝ }
+{
+    traces::walk::check(trace)
+}
+
+// One entry of a trace, under the mode after of the entry before it.
+#[no_mangle]
+pub extern "C" fn kb_check_trace_entry(previous: u32, entry: &[u8]) -> Judged
+    ensures { λ r. ⌜ r ≡ judged previous (now (entry .entry)) ⌝ }
+{
+    traces::entry::judge(previous, entry)
 }

@@ -41,7 +41,7 @@ module _ (held rest : List ℕ) (closed : Bool) (whole : closed ≡ false → en
 
 -- what is left to tell, where `rest` is still to be read
 abbrev toCome : List ℕ → File → List ℕ → Checked
-toCome rest file input = cond (file .over) (answerOf file) (walked (file .entries) (file .previous) (entriesOf (heldBytes input (file .held) ++ rest)))
+toCome rest file input = cond (file .over) (answerOf file) (walked (file .entries + 1) (file .previous) (entriesOf (heldBytes input (file .held) ++ rest)))
 
 -- where no entry is there, the last one was right
 right-told : (n : ℕ) → cond (isRight right) yes (toldAt n right) ≡ yes
@@ -133,7 +133,7 @@ module _ {file : File} {before after : List ℕ} {r : File} (t : IsTurn file bef
     same = judged-held first rest (t .held .ended) (t .ready .enough) shut-held (file .previous)
 
     abbrev whole : Checked
-    whole = walked (file .entries) (file .previous) (entriesOf (first ++ rest))
+    whole = walked (file .entries + 1) (file .previous) (entriesOf (first ++ rest))
 
     end-left : isEnd (t .held) first ≡ true → whole ≡ cond (not (t .held .failed)) yes whole
     end-left e = of (t .held .failed) refl
@@ -141,21 +141,21 @@ module _ {file : File} {before after : List ℕ} {r : File} (t : IsTurn file bef
         of : (b : Bool) → t .held .failed ≡ b → whole ≡ cond (not b) yes whole
         of true f = refl
         of false f =
-            sym (walked-end (file .entries) (file .previous) (first ++ rest)
+            sym (walked-end (file .entries + 1) (file .previous) (first ++ rest)
             (none-left entryBytes first rest (t .held .ended) (omega arith) (t .ready .enough) shut-held (is-end (t .held) first e f)))
 
     told-left : isEnd (t .held) first ≡ false → isRight (judged (file .previous) first) ≡ false → whole ≡ toldAt (file .entries + 1) (judged (file .previous) first)
     told-left e w =
-        sym (walked-told (file .entries) (file .previous) (first ++ rest) (some-left e) (ap isRight same ∙ w))
+        sym (walked-told (file .entries + 1) (file .previous) (first ++ rest) (some-left e) (ap isRight same ∙ w))
         ∙ ap (toldAt (file .entries + 1)) same
 
     on-left : isEnd (t .held) first ≡ false → isRight (judged (file .previous) first) ≡ true
-        → whole ≡ walked (file .entries + 1) (modeAfter first) (entriesOf (heldBytes after (behindBy entryBytes (t .held)) ++ rest))
+        → whole ≡ walked (file .entries + 1 + 1) (modeAfter first) (entriesOf (heldBytes after (behindBy entryBytes (t .held)) ++ rest))
     on-left e w =
         let behind : drop entryBytes (first ++ rest) ≡ heldBytes after (behindBy entryBytes (t .held)) ++ rest =
         drop-append-le entryBytes first rest (right-whole (file .previous) first w) ∙ ap (λ (s : List ℕ). s ++ rest) (sym (behind-held after (t .held) entryBytes)) in
-        walked-on (file .entries) (file .previous) (first ++ rest) (some-left e) (ap isRight same ∙ w)
-        ∙ λ i. walked (file .entries + 1) (after-held first rest (t .held .ended) (t .ready .enough) shut-held i) (entriesOf (behind i))
+        walked-on (file .entries + 1) (file .previous) (first ++ rest) (some-left e) (ap isRight same ∙ w)
+        ∙ λ i. walked (file .entries + 1 + 1) (after-held first rest (t .held .ended) (t .ready .enough) shut-held i) (entriesOf (behind i))
 
     -- what was to come before a turn is what is to come behind it
     turn-left : whole ≡ toCome rest r after
@@ -193,7 +193,7 @@ so-far (next {read} {before} {after} {file} {r} turns going t) rest shut =
     ∙ so-far turns (t .ready .more ++ rest)
     (λ e. let closed = t .ready .closed e in
     ap₂ (λ (x y : List ℕ). x ++ y) (closed .0) (shut (ended-same t ∙ ap (λ (h : Held). h .ended) (closed .1) ∙ e)))
-    ∙ (λ i. cond (goes-on file going .0 i) (answerOf file) (walked (file .entries) (file .previous) (entriesOf (kept i))))
+    ∙ (λ i. cond (goes-on file going .0 i) (answerOf file) (walked (file .entries + 1) (file .previous) (entriesOf (kept i))))
     ∙ turn-left t rest shut
   where
     kept : heldBytes before (file .held) ++ (t .ready .more ++ rest) ≡ heldBytes after (t .held) ++ rest
@@ -271,6 +271,6 @@ all-checked {start} {input} {file} g stop = record {
   few = few-entries (g .turns);
   answered = λ over rest shut.
       so-far (g .turns) rest shut
-      ∙ ap (λ (b : Bool). cond b (answerOf file) (walked (file .entries) (file .previous) (entriesOf (heldBytes input (file .held) ++ rest)))) over;
+      ∙ ap (λ (b : Bool). cond b (answerOf file) (walked (file .entries + 1) (file .previous) (entriesOf (heldBytes input (file .held) ++ rest)))) over;
   counted = λ over r. omega (arith, all-counted (g .turns), all-right (g .turns) over r);
 }

@@ -132,18 +132,18 @@ module _ (previous : ℕ) (s : List ℕ) (r : IsRightEntry previous (firstEntry 
     first = λ l. r .chained;
   }
 
-yes-right : (most n previous : ℕ) (s : List ℕ) → length s ≤ most → walked n previous (entriesOf s) ≡ yes → RightBehind previous s
-yes-right zero n previous s h y = none-right previous s (omega arith)
-yes-right (suc most) n previous s h y =
+yes-right : (most n previous : ℕ) (s : List ℕ) → 0 < n → length s ≤ most → walked n previous (entriesOf s) ≡ yes → RightBehind previous s
+yes-right zero n previous s from h y = none-right previous s (omega arith)
+yes-right (suc most) n previous s from h y =
     of (lt-or-le 0 (length s)) (isRight (judged previous (firstEntry s))) refl
-    (λ some k. yes-right most (n + 1) (modeAfter (firstEntry s)) (drop entryBytes s) (omega (arith, length-drop entryBytes s)) k)
+    (λ some k. yes-right most (n + 1) (modeAfter (firstEntry s)) (drop entryBytes s) (omega arith) (omega (arith, length-drop entryBytes s)) k)
   where
     of : (0 < length s) ⊎ (length s ≤ 0) → (b : Bool) → isRight (judged previous (firstEntry s)) ≡ b
         → (0 < length s → walked (n + 1) (modeAfter (firstEntry s)) (entriesOf (drop entryBytes s)) ≡ yes → RightBehind (modeAfter (firstEntry s)) (drop entryBytes s))
         → RightBehind previous s
     of (inr z) b e behind = none-right previous s (omega arith)
     of (inl some) false e behind =
-        let told : n + 1 ≡ 0 = ap (λ (c : Checked). c .entry) (walked-told n previous s some e ∙ y) in
+        let told : n ≡ 0 = ap (λ (c : Checked). c .entry) (walked-told n previous s some e ∙ y) in
         absurd (omega arith)
     of (inl some) true e behind =
         one-more previous s (right-means previous (firstEntry s) e) (behind some (sym (walked-on n previous s some e) ∙ y))
@@ -199,6 +199,6 @@ right-yes (suc count) n previous s low r e =
 pub yes-exactly-where-right : (s : List ℕ) → (checked s ≡ yes) ↔ IsRightTrace s
 unfolding checked
 yes-exactly-where-right s = (
-  λ y. yes-right (length s) 0 0 s (omega arith) y .trace,
-  λ r. right-yes (r .count) 0 0 s (omega arith) (record { trace = r; first = λ l. first-follows (entryAt s 0) }) refl,
+  λ y. yes-right (length s) 1 0 s (omega arith) (omega arith) y .trace,
+  λ r. right-yes (r .count) 1 0 s (omega arith) (record { trace = r; first = λ l. first-follows (entryAt s 0) }) refl,
 )

@@ -43,7 +43,7 @@ module _ (n previous : ℕ) (s : List ℕ) where
   walked-end z = rw (entries-none s z)
 
   module _ (some : 0 < length s) where
-    pub walked-told : isRight (judged previous (firstEntry s)) ≡ false → toldAt (n + 1) (judged previous (firstEntry s)) ≡ walked n previous (entriesOf s)
+    pub walked-told : isRight (judged previous (firstEntry s)) ≡ false → toldAt n (judged previous (firstEntry s)) ≡ walked n previous (entriesOf s)
     unfolding walked
     walked-told e = rw (entries-next s some) (rw e)
 
@@ -56,10 +56,10 @@ module _ (n previous : ℕ) (s : List ℕ) where
 
 pub record Reached (s : List ℕ) (at n previous : ℕ) : Type 0 where
   pub inside : at ≤ length s
-  pub few : n ≤ at
+  pub few : n ≤ at + 1
   pub left : checked s ≡ walked n previous (entriesOf (drop at s))
 
-pub reached-first : (s : List ℕ) → Reached s 0 0 0
+pub reached-first : (s : List ℕ) → Reached s 0 1 0
 unfolding checked
 reached-first s = record { inside = omega arith; few = omega arith; left = refl }
 
@@ -75,9 +75,9 @@ module _ {s : List ℕ} {at n previous : ℕ} (r : Reached s at n previous) wher
     first-judged : judged previous (firstEntry (drop at s)) ≡ judged previous (drop at s)
     first-judged = judged-front (drop at s) entryBytes (omega arith) previous
 
-    pub reached-told : isRight (judged previous (drop at s)) ≡ false → toldAt (n + 1) (judged previous (drop at s)) ≡ checked s
+    pub reached-told : isRight (judged previous (drop at s)) ≡ false → toldAt n (judged previous (drop at s)) ≡ checked s
     reached-told w =
-        ap (toldAt (n + 1)) (sym first-judged) ∙ walked-told n previous (drop at s) some-left (ap isRight first-judged ∙ w) ∙ sym (r .left)
+        ap (toldAt n) (sym first-judged) ∙ walked-told n previous (drop at s) some-left (ap isRight first-judged ∙ w) ∙ sym (r .left)
 
     pub reached-next : isRight (judged previous (drop at s)) ≡ true → Reached s (at + entryBytes) (n + 1) (modeAfter (drop at s))
     reached-next w = record {

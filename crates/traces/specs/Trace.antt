@@ -27,13 +27,12 @@ yes = record { answer = 0; entry = 0; due = 0 }
 abbrev pub toldAt : ℕ → Judged → Checked
 toldAt n j = record { answer = j .answer; entry = n; due = j .due }
 
--- the entries judged one after another up to the first that is not right. So many came before them, and `previous` is the mode after of the last of those,
--- or 0
+-- the entries judged one after another, up to the first that is not right. The first of them has this number, and `previous` is the mode after of the
+-- entry before it, or 0
 unfoldable pub walked : ℕ → ℕ → List (List ℕ) → Checked
-walked before previous [] = yes
-walked before previous (e ∷ more) =
-    cond (isRight (judged previous e)) (walked (before + 1) (modeAfter e) more) (toldAt (before + 1) (judged previous e))
+walked number previous [] = yes
+walked number previous (e ∷ more) = cond (isRight (judged previous e)) (walked (number + 1) (modeAfter e) more) (toldAt number (judged previous e))
 
--- A TRACE CHECKED
+-- A TRACE CHECKED: its entries are numbered from 1, and before the first there is none
 unfoldable pub checked : List ℕ → Checked
-checked s = walked 0 0 (entriesOf s)
+checked s = walked 1 0 (entriesOf s)

@@ -121,7 +121,8 @@ pub fn judge(previous: u32, entry: &[u8]) -> Judged
     if !does_follow(previous, entry) {
         return Judged::wrong(BEFORE, previous);
     }
-    if mode_after(entry) != step.mode {
+    let after = mode_after(entry);
+    if after != step.mode {
         return Judged::wrong(AFTER, step.mode);
     }
     Judged::right()

@@ -22,12 +22,12 @@ fn is_yes() -> Checked
     }
 }
 
-fn told_at(entry: usize, judged: Judged) -> Checked
-    ensures { λ r. ⌜ r ≡ toldAt entry judged ⌝ }
+fn told_at(number: usize, judged: Judged) -> Checked
+    ensures { λ r. ⌜ r ≡ toldAt number judged ⌝ }
 {
     Checked {
         answer: judged.answer,
-        entry,
+        entry: number,
         due: judged.due,
     }
 }
@@ -37,16 +37,16 @@ pub fn check(trace: &[u8]) -> Checked
     ensures { λ r. ⌜ r ≡ checked (now (trace .entry)) ⌝ }
 {
     let mut previous = entry::NONE;
-    let mut before: usize = 0;
+    let mut number: usize = 1;
     let mut at: usize = 0;
     while at < trace.len() {
         let rest = &trace[at..];
         let judged = entry::judge(previous, rest);
         if !judged.is_right() {
-            return told_at(before + 1, judged);
+            return told_at(number, judged);
         }
         previous = entry::mode_after(rest);
-        before += 1;
+        number += 1;
         at += entry::BYTES;
     }
     is_yes()

@@ -15,10 +15,10 @@ use Rattle.traces.proofs.walk.check.Statement.{statement}
 use Rattle.traces.proofs.walk.check.Tie as tie
 
 abbrev Inv-loop : tie.InvT-loop
-Inv-loop trace previous₀ before₀ at₀ previous before at = Reached trace at before previous
+Inv-loop trace previous₀ number₀ at₀ previous number at = Reached trace at number previous
 
 abbrev μ-loop : tie.MeasureT-loop
-μ-loop trace previous₀ before₀ at₀ previous before at = length trace - at
+μ-loop trace previous₀ number₀ at₀ previous number at = length trace - at
 
 loop-holds : tie.Need-loop-holds Inv-loop μ-loop
 loop-holds c = reached-first (c .before .args .trace .now)
@@ -47,11 +47,8 @@ module _ (c : tie.After-is-right Inv-loop μ-loop) where
   is-right : c .is-right .result ≡ isRight (judged (looped .loop .previous) left)
   is-right = c .is-right .ensures ∙ ap isRight judged-is
 
-  next : c .is-right .result ≡ true → Reached trace (looped .loop .at + entryBytes) (looped .loop .before + 1) (modeAfter left)
+  next : c .is-right .result ≡ true → Reached trace (looped .loop .at + entryBytes) (looped .loop .number + 1) (modeAfter left)
   next e = reached-next (looped .loop .inv) inside (sym is-right ∙ e)
-
-add-told-at : tie.Need-add-told-at Inv-loop μ-loop
-add-told-at c = omega (arith, inside (c .before), looped (c .before) .loop .inv .few)
 
 returns : tie.Need-returns Inv-loop μ-loop
 returns c =
@@ -60,8 +57,8 @@ returns c =
     ∙ ap (toldAt _) (judged-is tested)
     ∙ reached-told (looped tested .loop .inv) (inside tested) (sym (is-right tested) ∙ not-true _ (c .before .if1 .taken))
 
-add-before : tie.Need-add-before Inv-loop μ-loop
-add-before c = omega (arith, inside (c .before .before), looped (c .before .before) .loop .inv .few)
+add-number : tie.Need-add-number Inv-loop μ-loop
+add-number c = omega (arith, inside (c .before .before), looped (c .before .before) .loop .inv .few)
 
 add-at : tie.Need-add-at Inv-loop μ-loop
 add-at c = omega (arith, next (c .before .before) (not-false _ (c .before .if1 .left)) .inside)
@@ -82,5 +79,5 @@ check-spec =
     tie.close
     (tie.spec
     Inv-loop μ-loop loop-holds (λ c. search needs) (λ c. search needs) (λ c. search needs) (λ c κs. search needs)
-    (λ c κs. search needs) add-told-at (λ c κs. search needs) returns (λ c κs. search needs) add-before add-at loop-less loop-again
+    (λ c κs. search needs) (λ c κs. search needs) returns (λ c κs. search needs) add-number add-at loop-less loop-again
     (λ c κs. search needs) returns-2)
