@@ -5,7 +5,7 @@
   tests/expected.py --write             writes it instead, after a case or the session's size was changed
   tests/expected.py --without-driver    compares, and leaves out what the independent model says, which cargo builds
 
-crates/bench and crates/gate_files are run on a sample each. The lines of tests/host/session.calls, which the driver makes, come from the model.
+crates/bench, crates/gate_files and crates/trace_files are run on a sample each. The lines of tests/host/session.calls, which the driver makes, come from the model.
 """
 
 import pathlib
@@ -24,6 +24,7 @@ SCRIPTS = {
     "crates/packet_runs/stdout": ("packet_cases.py", "stdout"),
     "crates/modes_runs/stdout": ("mode_steps.py",),
     "crates/train_runs/stdout": ("train_tables.py",),
+    "crates/trace_files/stdout": ("trace_lines.py", str(ROOT / "samples" / "traces" / "day.trace")),
     "tests/host/session.calls": ("session_cases.py", "stdin"),
     "tests/host/session.lines": ("session_cases.py", "stdout", CALLS),
 }
@@ -32,6 +33,7 @@ SAMPLES = {
     "crates/bench/stdout": "every-answer.lst",
     "crates/gate_files/stdin": "gates/station.old",
     "crates/gate_files/stdout": "gates/station.new",
+    "crates/trace_files/stdin": "traces/day.trace",
 }
 
 

@@ -78,6 +78,14 @@ pub struct Answer {
 
 #[repr(C)]
 #[derive(Clone, Copy, Default)]
+pub struct TraceAnswer {
+    pub answer: u32,
+    pub entry: usize,
+    pub due: u32,
+}
+
+#[repr(C)]
+#[derive(Clone, Copy, Default)]
 pub struct RecordAnswer {
     pub number: u64,
     pub kind: u32,
@@ -133,6 +141,7 @@ extern "C" {
     fn kb_frame_age(to: *mut AgeAnswer, station: u32, onboard: u32) -> *mut AgeAnswer;
     fn kb_next_mode(mode: u32, flags: *const u8, flags_len: usize) -> Answer;
     fn kb_next_mode_plain(mode: u32, flags: *const u8, flags_len: usize) -> Answer;
+    fn kb_check_trace(to: *mut TraceAnswer, trace: *const u8, trace_len: usize) -> *mut TraceAnswer;
     fn kb_start(session: *mut u8, len: usize) -> Answer;
     fn kb_request(session: *mut u8, len: usize, loco: u32, bytes: u32) -> Answer;
     fn kb_release(session: *mut u8, len: usize, loco: u32, ticket: u32) -> Answer;
@@ -208,6 +217,12 @@ pub fn next_mode(mode: u32, flags: &[u8]) -> Answer {
 
 pub fn next_mode_plain(mode: u32, flags: &[u8]) -> Answer {
     unsafe { kb_next_mode_plain(mode, flags.as_ptr(), flags.len()) }
+}
+
+pub fn check_trace(trace: &[u8]) -> TraceAnswer {
+    let mut to = TraceAnswer::default();
+    unsafe { kb_check_trace(&mut to, trace.as_ptr(), trace.len()) };
+    to
 }
 
 /// A session in bytes of its own.

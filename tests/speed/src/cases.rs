@@ -3,7 +3,7 @@
 
 use crate::{archive, peer};
 use bench_model::session::{Pair, Session};
-use bench_model::{clock, modes, old_gates, packets, turnouts};
+use bench_model::{clock, modes, old_gates, packets, traces, turnouts};
 use std::cell::RefCell;
 use std::hint::black_box;
 use std::rc::Rc;
@@ -225,6 +225,30 @@ fn mode_cases() -> Vec<Case> {
     ]
 }
 
+/// An entry of a mode trace, under one condition.
+fn entry(before: u8, condition: u32, after: u8) -> Vec<u8> {
+    [&[0x4B, 0x56, before][..], &flags(&[condition]), &[after]].concat()
+}
+
+/// A right trace of so many entries, from SB to FS and back again and again.
+fn trace(entries: u32) -> Vec<u8> {
+    [entry(1, 62, 4), entry(4, 7, 1)].into_iter().cycle().take(entries as usize).flatten().collect()
+}
+
+/// A round: a trace checked, whose entries are all right.
+fn checking(entries: u32, entry: impl Fn(&[u8]) -> usize + 'static) -> Rounds {
+    let trace = trace(entries);
+    alone(move || assert_eq!(entry(black_box(&trace)), 0))
+}
+
+fn trace_cases() -> [Case; 2] {
+    let makers: Makers = (
+        |entries| checking(entries, |trace| archive::check_trace(trace).entry),
+        |entries| checking(entries, |trace| traces::check_trace(trace).entry),
+    );
+    [1, 100].map(|entries| Case::new(format!("mode trace, entries: {entries}"), entries, makers))
+}
+
 fn age_case() -> Case {
     let age: Makers = (
         |station| alone(move || assert_eq!(archive::frame_age(black_box(station), 11).age, 4)),
@@ -334,6 +358,7 @@ pub fn all() -> Vec<Case> {
     cases.extend(move_cases());
     cases.extend(turnout_cases());
     cases.extend(mode_cases());
+    cases.extend(trace_cases());
     cases.push(age_case());
     cases.extend(session_cases(1));
     cases.extend(session_cases(24));
