@@ -2,22 +2,18 @@
 use mathlib.Core.Logic.{_⊎_, inl, inr}
 use mathlib.Core.Path.{_≡_, sym, _∙_}
 use mathlib.Core.List.{List}
-use Prim.Native.Nat.{ℕ, _+_, _*_, _/_, _<_, _≤_}
+use Prim.Native.Nat.{ℕ, _+_, _*_, _<_, _≤_}
 use native.Mathlib.Omega.{arith}
 use borrow.Author.Tests.{le-leb, lt-leb}
 use lib.Dec.{leb}
 use lib.ListN.{length, take, drop, length-take, length-drop}
 use lib.Seq.{getD-take, getD-drop, ext-getD}
-use Rattle.numbers.specs.Fields.{bitAt}
 use Rattle.numbers.specs.Numbers.{numberAt}
-use Rattle.numbers.proofs.FieldLaws.{field-ext, lt-or-le}
-
-bit-front : (s : List ℕ) (p m : ℕ) → p / 8 < m → bitAt (take m s) p ≡ bitAt s p
-unfolding bitAt
-bit-front s p m h = rw getD-take
+use Rattle.numbers.proofs.FieldLaws.{field-front}
+use Rattle.numbers.proofs.Logic.{lt-or-le}
 
 pub number-front : (n : ℕ) (s : List ℕ) (i m : ℕ) → i + n ≤ m → numberAt n (take m s) i ≡ numberAt n s i
-number-front n s i m h = field-ext (take m s) s (8 * i) (8 * n) (λ j l. bit-front s (8 * i + j) m (omega arith))
+number-front n s i m h = field-front s (8 * i) (8 * n) m (omega arith)
 
 pub part-front : (s : List ℕ) (a n m : ℕ) → a + n ≤ m → take n (drop a (take m s)) ≡ take n (drop a s)
 part-front s a n m h =
