@@ -6,7 +6,7 @@ use traces::entry;
 use traces::entry::Judged;
 use transitions::names;
 ghost use mathlib.Core.Path.{_≡_};
-ghost use Prim.Native.Nat.{_≤_};
+ghost use Prim.Native.Nat.{_+_, _≤_};
 ghost use Rattle.modes.specs.Flags.{flagCount};
 ghost use Rattle.trace_files.specs.Turns.{mostEntries};
 ghost use Rattle.trace_files.specs.Outcome.{outcomeOf};
@@ -19,11 +19,6 @@ const IS_RIGHT: u64 = 0;
 const IS_NOT_RIGHT: u64 = 1;
 
 const NOT_DONE: u64 = 2;
-
-// Where the flag of condition 0 would stand in an entry.
-const FLAGS: usize = 2;
-
-const CONDITIONS: usize = 91;
 
 fn put(text: &[u8]) -> bool {
     io::write_all(STDOUT_FILENO, text)
@@ -81,18 +76,18 @@ fn put_form(byte: u64, first: &[u8]) -> bool {
         && put(b", where it begins; see whether each entry before it has 95 bytes")
 }
 
-// The first condition whose flag is neither 0 nor 1, or 0.
-fn bad_condition(first: &[u8]) -> usize
-    ensures { λ r. ⌜ r ≤ flagCount ⌝ }
+// Where the first flag stands that is neither 0 nor 1; where there is none, behind the flags.
+fn bad_flag(first: &[u8]) -> usize
+    ensures { λ r. ⌜ (3 ≤ r) × (r ≤ 3 + flagCount) ⌝ }
 {
-    let mut n = 1;
-    while n <= CONDITIONS {
-        if 1 < numbers::byte_at(first, FLAGS + n) {
-            return n;
+    let mut at = entry::FLAGS;
+    while at < entry::MODE_AFTER {
+        if 1 < numbers::byte_at(first, at) {
+            return at;
         }
-        n += 1;
+        at += 1;
     }
-    0
+    at
 }
 
 fn put_no_mode(mode: u32) -> bool {
@@ -105,14 +100,15 @@ fn put_range(first: &[u8]) -> bool {
     if !names::is_mode(before) {
         return put(b"its mode before is ") && put_no_mode(before);
     }
-    let condition = bad_condition(first);
-    if condition == 0 {
+    let at = bad_flag(first);
+    if at == entry::MODE_AFTER {
         return put(b"its mode after is ") && put_no_mode(entry::mode_after(first));
     }
+    let condition = at - entry::FLAGS + 1;
     put(b"its flag of condition ")
         && put_number(condition as u64)
         && put(b" is ")
-        && put_number(numbers::byte_at(first, FLAGS + condition) as u64)
+        && put_number(numbers::byte_at(first, at) as u64)
         && put(b"; a flag is 0 or 1")
 }
 

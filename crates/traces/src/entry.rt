@@ -5,14 +5,17 @@ ghost use mathlib.Core.Path.{_≡_};
 ghost use Rattle.modes.specs.Next.{nextStep};
 ghost use Rattle.traces.specs.Entry.{modeBefore, modeAfter, flagsOf, isEntry, isOutOfRange, follows, refusedWith, wrongAt, right, isRight, judged};
 
+// The bytes of an entry.
 pub const BYTES: usize = 95;
 
+// Where its parts stand, behind the mark.
 const MODE_BEFORE: usize = 2;
 
-const FLAGS: usize = 3;
+pub const FLAGS: usize = 3;
 
-const MODE_AFTER: usize = 94;
+pub const MODE_AFTER: usize = 94;
 
+// The answer to bytes that do not begin with a whole entry.
 pub const BAD_ENTRY: u32 = 24;
 
 // No previous mode: nothing came before.
