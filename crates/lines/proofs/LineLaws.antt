@@ -1,11 +1,14 @@
 -- Laws of lines: a text behind a line, and what a line written from nothing is.
+use mathlib.Core.Bool.{Bool, true, false, cond}
 use mathlib.Core.Path.{_≡_, refl, sym, ap, ap₂, _∙_}
 use mathlib.Core.List.{List, [], _∷_, _++_, append-assoc, append-nil}
 use Prim.Native.Nat.{ℕ, suc, _+_, _-_, _≤_, _<_}
 use native.Mathlib.Omega.{arith}
+use native.Mathlib.Numerals.{add-one}
 use borrow.Author.Tests.{lt-ltb}
-use lib.ListN.{length, replicate, set, length-append}
-use lib.Seq.{set-append-seam}
+use lib.Dec.{ltb}
+use lib.ListN.{length, getD, drop, replicate, set, length-set, length-append, drop-of-length-le}
+use lib.Seq.{set-append-seam, drop-cons}
 use Rattle.lines.specs.declared.line.Line.{Line}
 use Rattle.lines.specs.Line.{room, lineOf, withByte, withText}
 
@@ -21,6 +24,30 @@ text-append l (b ∷ s) t = text-append (withByte l b) s t
 pub text-byte : (l : Line) (b : ℕ) → withByte l b ≡ withText l (b ∷ [])
 unfolding withText
 text-byte l b = refl
+
+-- the array keeps its bytes
+byte-room : (l : Line) (b : ℕ) → length (withByte l b .bytes) ≡ length (l .bytes)
+unfolding withByte
+byte-room l b = of (ltb (l .len) room)
+  where
+    of : (c : Bool) → length (cond c (record { bytes = set (l .bytes) (l .len) b; len = l .len + 1 }) l .bytes) ≡ length (l .bytes)
+    of true = length-set (l .bytes) (l .len) b
+    of false = refl
+
+pub text-room : (l : Line) (t : List ℕ) → length (withText l t .bytes) ≡ length (l .bytes)
+unfolding withText
+text-room l [] = refl
+text-room l (b ∷ t) = text-room (withByte l b) t ∙ byte-room l b
+
+-- what is left of a text behind a line, by its next byte
+pub text-next : (l : Line) (t : List ℕ) (i : ℕ) → i < length t → withText l (drop i t) ≡ withText (withByte l (getD t i 0)) (drop (i + 1) t)
+unfolding withText
+text-next l t i h = ap (withText l) (drop-cons t i 0 h ∙ ap (λ (k : ℕ). getD t i 0 ∷ drop k t) (sym (add-one i)))
+
+-- and nothing, where the text is over
+pub text-end : (l : Line) (t : List ℕ) (i : ℕ) → length t ≤ i → withText l (drop i t) ≡ l
+unfolding withText
+text-end l t i h = ap (withText l) (drop-of-length-le t h)
 
 -- a byte behind a text that has room for it
 byte-written : (s : List ℕ) (b : ℕ) → length s < room → withByte (lineOf s) b ≡ lineOf (s ++ (b ∷ []))

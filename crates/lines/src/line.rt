@@ -1,4 +1,4 @@
-// A line that is written from its front, in an array with room for the longest.
+// A line that is written from its front, in an array with room for the longest of a listing.
 ghost use mathlib.Core.Path.{_≡_};
 ghost use mathlib.Core.List.{[]};
 ghost use Prim.Native.Nat.{_%_};
@@ -20,7 +20,7 @@ pub struct Line {
 }
 
 impl Line {
-    pub(crate) fn empty() -> Line
+    pub fn empty() -> Line
         ensures { λ r. ⌜ r ≡ lineOf [] ⌝ }
     {
         Line {
@@ -41,6 +41,19 @@ impl Line {
         self
     }
 
+    // Words behind the line, as far as there is room.
+    pub fn with_words(self, words: &[u8]) -> Line
+        ensures { λ r. ⌜ r ≡ withText self (now (words .entry)) ⌝ }
+    {
+        let mut line = self;
+        let mut i: usize = 0;
+        while i < words.len() {
+            line = line.with_byte(words[i]);
+            i += 1;
+        }
+        line
+    }
+
     // The last digit of a number behind the line.
     fn with_last_digit(self, n: u64) -> Line
         ensures { λ r. ⌜ r ≡ withByte self (digitByte (n % 10)) ⌝ }
@@ -49,7 +62,7 @@ impl Line {
     }
 
     // A number behind the line: its digits above the last, if there are any, and the last.
-    pub(crate) fn with_number(self, n: u64) -> Line
+    pub fn with_number(self, n: u64) -> Line
         ensures { λ r. ⌜ r ≡ withText self (decimal n) ⌝ }
     {
         if n < 10 {

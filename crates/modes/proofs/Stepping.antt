@@ -3,15 +3,16 @@ use mathlib.Core.Path.{_≡_, ap, _∙_, sym}
 use mathlib.Core.Bool.{true, false, _||_}
 use mathlib.Core.List.{List}
 use Prim.Native.Nat.{ℕ, _+_, _≤_}
-use lib.Dec.{eqb, leb}
+use lib.Dec.{eqb}
 use lib.ListN.{length}
 use lib.Seq.{slice}
-use borrow.Author.Tests.{leb-true, eqb-true, not-false}
+use borrow.Author.Tests.{eqb-true, not-false}
 use Rattle.transitions.specs.Names.{SB, IS, isMode}
 use Rattle.transitions.specs.Table.{Transition, table, those}
 use Rattle.transitions.specs.Held.{firstOf}
-use Rattle.numbers.proofs.Logic.{both, neither}
+use Rattle.numbers.proofs.Logic.{neither}
 use Rattle.transitions.proofs.Held.{line}
+use Rattle.transitions.proofs.NameLaws.{mode-low, mode-high}
 use Rattle.modes.specs.Flags.{flagCount, wrongCount, flagAboveOne}
 use Rattle.modes.specs.Next.{isOpen, opens, choose, modeOutOfRange, refuses, refused, nextStep}
 
@@ -22,13 +23,13 @@ pub record Taken (m : ℕ) (fs : List ℕ) : Type 0 where
   pub count : length fs ≡ flagCount
 
 pub taken : (m : ℕ) (fs : List ℕ) → refuses m fs ≡ false → Taken m fs
-unfolding refuses isMode
+unfolding refuses
 taken m fs e =
     let mode = not-false (isMode m) (neither (modeOutOfRange m) (wrongCount fs || flagAboveOne fs) e .0) in
     let flags = neither (wrongCount fs) (flagAboveOne fs) (neither (modeOutOfRange m) (wrongCount fs || flagAboveOne fs) e .1) .0 in
     record {
-      low = leb-true SB m (both (leb SB m) (leb m IS) mode .0);
-      high = leb-true m IS (both (leb SB m) (leb m IS) mode .1);
+      low = mode-low m mode;
+      high = mode-high m mode;
       count = eqb-true (length fs) flagCount (not-false (eqb (length fs) flagCount) flags);
     }
 

@@ -1,9 +1,10 @@
 // What a vendor and the calling script are told of a trace that was checked. What is put goes to standard output, and says whether it could be written.
+use crate::answer;
 use crate::files::File;
 use libc::STDERR_FILENO;
 use libc::STDOUT_FILENO;
+use lines::ROOM;
 use traces::entry;
-use traces::entry::Judged;
 use transitions::names;
 ghost use mathlib.Core.Path.{_≡_};
 ghost use Prim.Native.Nat.{_+_, _≤_};
@@ -26,42 +27,6 @@ fn put(text: &[u8]) -> bool {
 
 fn put_number(n: u64) -> bool {
     io::print_decimal(STDOUT_FILENO, n)
-}
-
-fn put_name(mode: u32) -> bool {
-    match mode {
-        1 => put(b"SB"),
-        2 => put(b"SR"),
-        3 => put(b"LS"),
-        4 => put(b"FS"),
-        5 => put(b"OV"),
-        6 => put(b"OS"),
-        7 => put(b"TR"),
-        8 => put(b"PT"),
-        9 => put(b"RV"),
-        10 => put(b"SH"),
-        11 => put(b"NL"),
-        12 => put(b"SF"),
-        _ => put(b"IS"),
-    }
-}
-
-fn put_mode(mode: u32) -> bool {
-    put_number(mode as u64) && put(b" (") && put_name(mode) && put(b")")
-}
-
-// The mode that is due, and the one that stands in the entry.
-fn put_modes(judged: Judged, first: &[u8]) -> bool {
-    if judged.wrong == entry::BEFORE {
-        return put(b": mode before: due ")
-            && put_mode(judged.due)
-            && put(b", not ")
-            && put_mode(entry::mode_before(first));
-    }
-    put(b": mode after: due ")
-        && put_mode(judged.due)
-        && put(b", not ")
-        && put_mode(entry::mode_after(first))
 }
 
 // An entry that is none, which would begin at this byte of the trace.
@@ -113,34 +78,28 @@ fn put_range(first: &[u8]) -> bool {
 }
 
 // Why an entry is refused, and what to look at.
-fn put_refusal(answer: u32, byte: u64, first: &[u8]) -> bool {
-    let is_put = put(b" is refused: answer ") && put_number(answer as u64) && put(b": ");
-    if !is_put {
-        return false;
-    }
-    if answer == entry::BAD_ENTRY {
-        return put_form(byte, first);
+fn put_reason(file: File, first: &[u8]) -> bool
+    requires { ⌜ file .entries ≤ mostEntries ⌝ }
+{
+    let judged = file.judged;
+    if judged.answer == entry::BAD_ENTRY {
+        return put_form(entry::BYTES as u64 * file.entries, first);
     }
     put_range(first)
 }
 
-// The answer, a line; `first` is what was held last.
+// The answer; `first` is what was held last.
 fn put_answer(file: File, first: &[u8]) -> bool
     requires { ⌜ file .entries ≤ mostEntries ⌝ }
 {
     let judged = file.judged;
-    if judged.is_right() {
-        return put(b"yes ") && put_number(file.entries) && put(b"\n");
-    }
-    let is_put = put(b"entry ") && put_number(file.entries + 1);
-    if !is_put {
-        return false;
-    }
+    let line = answer::line(file, first);
+    let bytes = line.bytes;
+    let is_put = put(&bytes[..numbers::at_most(line.len, ROOM)]);
     if judged.answer == 0 {
-        return put_modes(judged, first) && put(b"\n");
+        return is_put;
     }
-    let byte = entry::BYTES as u64 * file.entries;
-    put_refusal(judged.answer, byte, first) && put(b"\n")
+    is_put && put_reason(file, first) && put(b"\n")
 }
 
 fn say(text: &[u8]) {

@@ -5,13 +5,14 @@ use mathlib.Core.Logic.{_⊎_, inl, inr, _↔_}
 use mathlib.Core.List.{List}
 use Prim.Native.Nat.{ℕ, zero, suc, _+_, _*_, _≤_, _<_}
 use native.Mathlib.Omega.{arith}
-use borrow.Author.Tests.{not-false, leb-true, eqb-true, eqb-false, le-leb, le-ltb, eq-eqb, ne-eqb}
-use lib.Dec.{eqb, leb, ltb}
+use borrow.Author.Tests.{not-false, eqb-true, le-ltb, eq-eqb, ne-eqb}
+use lib.Dec.{eqb, ltb}
 use lib.ListN.{length, take, drop, length-take, length-drop}
 use lib.Seq.{drop-drop}
-use Rattle.numbers.proofs.Logic.{both, neither, lt-or-le}
+use Rattle.numbers.proofs.Logic.{neither, lt-or-le}
 use Rattle.marks.specs.Marks.{isMarked}
-use Rattle.transitions.specs.Names.{SB, IS, isMode}
+use Rattle.transitions.specs.Names.{IS, isMode}
+use Rattle.transitions.proofs.NameLaws.{mode-low, mode-high}
 use Rattle.modes.specs.Flags.{flagCount, wrongCount, flagAboveOne}
 use Rattle.modes.specs.Next.{modeOutOfRange, refuses}
 use Rattle.traces.specs.declared.walk.Checked.{Checked}
@@ -22,14 +23,6 @@ use Rattle.traces.proofs.EntryLaws.{entry-marked, entry-whole, is-whole
 use Rattle.traces.proofs.TraceLaws.{walked-end, walked-told, walked-on}
 
 -- ---- one entry
-
-mode-low : (m : ℕ) → isMode m ≡ true → SB ≤ m
-unfolding isMode
-mode-low m h = leb-true SB m (both (leb SB m) (leb m IS) h .0)
-
-mode-high : (m : ℕ) → isMode m ≡ true → m ≤ IS
-unfolding isMode
-mode-high m h = leb-true m IS (both (leb SB m) (leb m IS) h .1)
 
 in-range : (previous : ℕ) (e : List ℕ) → isOutOfRange previous e ≡ false → IsInRange e
 unfolding isOutOfRange refuses

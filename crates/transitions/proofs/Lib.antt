@@ -1,3 +1,4 @@
 pub mod Members
 pub mod Checked
 pub mod Held
+pub mod NameLaws
