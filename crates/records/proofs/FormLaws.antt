@@ -7,7 +7,7 @@ use native.Mathlib.Omega.{arith}
 use borrow.Author.Tests.{leb-true, ltb-true}
 use lib.Dec.{eqb, leb, ltb}
 use lib.ListN.{length, take, drop}
-use Rattle.marks.specs.Marks.{isMarked}
+use Rattle.mark_bytes.specs.Mark.{isMarked}
 use Rattle.records.specs.Kinds.{among, payloadLength}
 use Rattle.records.specs.Form.{headBytes, longest, kindOf, saidLength, recordLength, isRecord, mostRecords, isRun, payloadOf}
 use Rattle.records.proofs.KindLaws.{payload-most}

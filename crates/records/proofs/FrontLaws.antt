@@ -8,8 +8,8 @@ use lib.Dec.{eqb, leb, ltb}
 use lib.ListN.{length, take, drop}
 use lib.Seq.{take-append-seam}
 use Rattle.numbers.proofs.FrontLaws.{number-front, part-front, enough-front}
-use Rattle.marks.specs.Marks.{isMarked}
-use Rattle.marks.proofs.MarkLaws.{marked-front}
+use Rattle.mark_bytes.specs.Mark.{isMarked}
+use Rattle.mark_bytes.proofs.MarkLaws.{marked-front}
 use Rattle.records.specs.Kinds.{payloadLength, callBy}
 use Rattle.records.specs.Form.{headBytes, mostRecords, kindOf, saidLength, recordLength, isRecord, isRun, payloadOf, callOf}
 use Rattle.records.proofs.FormLaws.{record-head, record-whole}

@@ -4,7 +4,7 @@ use mathlib.Core.{Bool.Bool, Bool._&&_, List.List}
 use Prim.Native.Nat.{ℕ, _+_}
 use lib.{Dec.eqb, Dec.leb, Dec.ltb, ListN.length, ListN.take, ListN.drop}
 use Rattle.numbers.specs.Numbers.{numberAt}
-use Rattle.marks.specs.Marks.{isMarked}
+use Rattle.mark_bytes.specs.Mark.{isMarked}
 use Rattle.replay.specs.Demand3.{Call}
 use Rattle.rules.specs.Rules.{Op}
 use Rattle.records.specs.Kinds.{payloadLength, callBy}

@@ -54,7 +54,7 @@ pub fn record_length(held: &[u8]) -> u32
 fn is_record(held: &[u8]) -> bool
     ensures { λ r. ⌜ r ≡ isRecord (now (held .entry)) ⌝ }
 {
-    if !marks::is_marked(held) {
+    if !mark_bytes::is_marked(held) {
         return false;
     }
     let length = payload_length(kind_of(held));

@@ -9,8 +9,8 @@ use lib.Dec.{leb, ltb, eqb}
 use lib.ListN.{length, take}
 use Rattle.numbers.proofs.Logic.{both}
 use Rattle.numbers.proofs.FrontLaws.{number-front, part-front, enough-front}
-use Rattle.marks.specs.Marks.{isMarked}
-use Rattle.marks.proofs.MarkLaws.{marked-front}
+use Rattle.mark_bytes.specs.Mark.{isMarked}
+use Rattle.mark_bytes.proofs.MarkLaws.{marked-front}
 use Rattle.transitions.specs.Names.{IS, isMode}
 use Rattle.modes.specs.Flags.{flagCount}
 use Rattle.modes.specs.Next.{refuses, outOfRange, nextStep}

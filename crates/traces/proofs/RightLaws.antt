@@ -10,7 +10,7 @@ use lib.Dec.{eqb, ltb}
 use lib.ListN.{length, take, drop, length-take, length-drop}
 use lib.Seq.{drop-drop}
 use Rattle.numbers.proofs.Logic.{neither, lt-or-le}
-use Rattle.marks.specs.Marks.{isMarked}
+use Rattle.mark_bytes.specs.Mark.{isMarked}
 use Rattle.transitions.specs.Names.{IS, isMode}
 use Rattle.transitions.proofs.NameLaws.{mode-low, mode-high}
 use Rattle.modes.specs.Flags.{flagCount, wrongCount, flagAboveOne}

@@ -3,7 +3,7 @@ use mathlib.Core.{Bool.Bool, Bool.cond, Bool.not, Bool._&&_, Bool._||_, List.Lis
 use Prim.Native.Nat.{ℕ}
 use lib.{Dec.eqb, Dec.leb, Dec.ltb, ListN.length, ListN.take, ListN.drop}
 use Rattle.numbers.specs.Numbers.{numberAt}
-use Rattle.marks.specs.Marks.{isMarked}
+use Rattle.mark_bytes.specs.Mark.{isMarked}
 use Rattle.transitions.specs.Names.{IS, isMode}
 use Rattle.modes.specs.{Flags.flagCount, Next.refuses, Next.outOfRange, Next.nextStep}
 use Rattle.traces.specs.declared.entry.Judged.{Judged}

@@ -2,7 +2,7 @@
 use mathlib.Core.{Bool.true, Bool.false, List.List, Path._≡_}
 use Prim.Native.Nat.{ℕ, _+_, _*_, _<_}
 use lib.ListN.{length, take, drop}
-use Rattle.marks.specs.Marks.{isMarked}
+use Rattle.mark_bytes.specs.Mark.{isMarked}
 use Rattle.transitions.specs.Names.{isMode}
 use Rattle.modes.specs.Flags.{flagAboveOne}
 use Rattle.traces.specs.Entry.{entryBytes, modeBefore, flagsOf, modeAfter, dueMode}

@@ -86,7 +86,7 @@ pub fn mode_after(entry: &[u8]) -> u32
 fn is_entry(bytes: &[u8]) -> bool
     ensures { λ r. ⌜ r ≡ isEntry (now (bytes .entry)) ⌝ }
 {
-    marks::is_marked(bytes) && BYTES <= bytes.len()
+    mark_bytes::is_marked(bytes) && BYTES <= bytes.len()
 }
 
 // Is something of an entry out of range? The mode step tells it of the mode before and of the flags.

@@ -1,11 +1,11 @@
--- `marks::is_marked` meets its contract.
+-- `mark_bytes::is_marked` meets its contract.
 use mathlib.Core.Path.{ap}
 use Prim.Native.Nat.{ℕ}
 use lib.Dec.{eqb}
-use Rattle.marks.specs.Marks.{mark, isMarked}
+use Rattle.mark_bytes.specs.Mark.{mark, isMarked}
 use borrow.Author.Needs.{needs}
-use Rattle.marks.proofs.is_marked.Statement.{statement}
-use Rattle.marks.proofs.is_marked.Tie as tie
+use Rattle.mark_bytes.proofs.is_marked.Statement.{statement}
+use Rattle.mark_bytes.proofs.is_marked.Tie as tie
 
 returns : tie.Need-returns
 unfolding isMarked

@@ -1,6 +1,6 @@
 // Our two-byte mark, 4B 56: every record of a recording and every entry of a trace begins with it.
 ghost use mathlib.Core.Path.{_≡_};
-ghost use Rattle.marks.specs.Marks.{isMarked};
+ghost use Rattle.mark_bytes.specs.Mark.{isMarked};
 
 const MARK: u32 = 0x4B56;
 

@@ -5,7 +5,7 @@ use Prim.Native.Nat.{ℕ, _≤_}
 use lib.Dec.{eqb}
 use lib.ListN.{take}
 use Rattle.numbers.proofs.FrontLaws.{number-front}
-use Rattle.marks.specs.Marks.{mark, isMarked}
+use Rattle.mark_bytes.specs.Mark.{mark, isMarked}
 
 pub marked-front : (s : List ℕ) (m : ℕ) → 2 ≤ m → isMarked (take m s) ≡ isMarked s
 unfolding isMarked
