@@ -19,7 +19,7 @@ ghost use Rattle.modes.specs.Flags.{anySet};
 ghost use Rattle.modes.specs.Next.{accepted, choose, isOpen, refuses, nextStep};
 ghost use Rattle.modes.specs.Kept.{kept, considered};
 
-// The answer to what is no mode, or not the flags of all conditions.
+// The answer to a number that is no mode, and to flags that are not 91 of 0 or 1.
 pub const OUT_OF_RANGE: u32 = 17;
 
 #[repr(C)]

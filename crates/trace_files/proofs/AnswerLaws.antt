@@ -1,20 +1,26 @@
 -- The line of an answer is what its parts make when written in turn.
-use mathlib.Core.Path.{_≡_, refl}
+use mathlib.Core.Path.{_≡_, refl, sym, ap, _∙_}
 use mathlib.Core.Bool.{Bool, true, false, cond, _&&_}
 use mathlib.Core.List.{List, [], _∷_}
-use Prim.Native.Nat.{ℕ, zero, suc, _-_, _^_, _≤_, _<_}
+use Prim.Native.Nat.{ℕ, zero, suc, _+_, _-_, _^_, _≤_, _<_}
 use native.Mathlib.Omega.{arith}
-use borrow.Author.Tests.{eqb-true}
+use native.Mathlib.Decide.{ℕ-discrete}
+use borrow.Author.Tests.{eqb-true, eq-eqb, ne-eqb}
 use lib.Dec.{eqb}
 use lib.ListN.{length, getD, length-append}
 use Rattle.numbers.proofs.Logic.{both}
 use Rattle.transitions.specs.Names.{IS, isMode}
 use Rattle.transitions.proofs.NameLaws.{mode-low, mode-high}
-use Rattle.traces.specs.Entry.{before}
+use Rattle.traces.specs.Entry.{before, modeBefore, modeAfter, isRight, judged}
+use Rattle.traces.specs.Right.{IsInRange}
+use Rattle.traces.specs.declared.entry.Judged.{Judged}
+use Rattle.traces.proofs.ToldLaws.{is-told}
 use Rattle.lines.specs.{Words.words, Decimal.decimal, Line.room, Line.lineOf, Line.withText, declared.line.Line.Line}
 use Rattle.lines.proofs.DecimalLaws.{decimal-length}
 use Rattle.lines.proofs.LineLaws.{text-append}
-use Rattle.trace_files.specs.Answer.{modeNames, nameOf, modeText, yesText, whichText, wrongText, refusedText, written}
+use Rattle.trace_files.specs.Answer.{modeNames, nameOf, modeText, yesText, whichText, wrongText, refusedText, foundIn, answerText, written}
+use Rattle.trace_files.specs.Turns.{mostEntries}
+use Rattle.trace_files.specs.declared.files.File.{File}
 
 -- ---- names
 
@@ -92,3 +98,43 @@ pub wrong-fits : (n which due found : ℕ) → n < 2 ^ 64 → due ≤ IS → fou
 unfolding wrongText words
 wrong-fits n which due found h l k =
     simp length-append (omega (arith, decimal-length n 19 (omega arith), which-fits which, mode-fits due l, mode-fits found k))
+
+found-fits : (which : ℕ) (first : List ℕ) → IsInRange first → foundIn which first ≤ IS
+unfolding foundIn
+found-fits which first r = of (eqb which before)
+  where
+    of : (b : Bool) → cond b (modeBefore first) (modeAfter first) ≤ IS
+    of true = mode-high (modeBefore first) (r .start)
+    of false = mode-high (modeAfter first) (r .end)
+
+-- so there is for the answer: of a right trace, and of an entry that was judged so
+module _ (file : File) (first : List ℕ) (few : file .entries ≤ mostEntries) where
+  pub right-fits : isRight (file .judged) ≡ true → length (answerText file first) ≤ room
+  unfolding answerText
+  right-fits e = rw e (yes-fits (file .entries) (omega (arith, few)))
+
+  module _ (previous : ℕ) (same : file .judged ≡ judged previous first) where
+    answer-same : file .judged .answer ≡ judged previous first .answer
+    answer-same = ap (λ (j : Judged). j .answer) same
+
+    due-same : file .judged .due ≡ judged previous first .due
+    due-same = ap (λ (j : Judged). j .due) same
+
+    pub told-fits : isRight (file .judged) ≡ false → length (answerText file first) ≤ room
+    unfolding answerText
+    told-fits e = rw e (of (ℕ-discrete (file .judged .answer) 0))
+      where
+        Fits : Type 0
+        Fits = length (cond (eqb (file .judged .answer) 0)
+            (wrongText (file .entries + 1) (file .judged .wrong) (file .judged .due) (foundIn (file .judged .wrong) first))
+            (refusedText (file .entries + 1) (file .judged .answer))) ≤ room
+
+        of : Dec (file .judged .answer ≡ 0) → Fits
+        of (yes z) =
+            rw (eq-eqb (file .judged .answer) 0 z)
+            (wrong-fits (file .entries + 1) (file .judged .wrong) (file .judged .due) (foundIn (file .judged .wrong) first) (omega (arith, few))
+            (omega (arith, due-same, is-told previous first .due))
+            (found-fits (file .judged .wrong) first (is-told previous first .inRange (sym answer-same ∙ z))))
+        of (no ne) =
+            rw (ne-eqb (file .judged .answer) 0 ne)
+            (refused-fits (file .entries + 1) (file .judged .answer) (omega (arith, few)) (omega (arith, answer-same, is-told previous first .answer)))

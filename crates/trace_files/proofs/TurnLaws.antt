@@ -7,9 +7,9 @@ use Prim.Native.Nat.{ℕ, _+_, _-_, _*_, _≤_, _<_}
 use native.Mathlib.Omega.{arith}
 use borrow.Author.Tests.{ltb-true, not-true}
 use lib.Dec.{ltb}
-use lib.ListN.{length, take, drop, length-drop, length-append}
+use lib.ListN.{length, drop, length-drop, length-append}
 use lib.Seq.{take-append-le, drop-append-le}
-use Rattle.numbers.proofs.Logic.{both, lt-or-le}
+use Rattle.numbers.proofs.Logic.{lt-or-le}
 use Rattle.holding.specs.declared.Held.{Held}
 use Rattle.holding.specs.Held.{stretch, heldBytes, behindBy, isEnd}
 use Rattle.holding.proofs.HeldLaws.{behind-held, not-end, is-end, none-left}
@@ -18,8 +18,11 @@ use Rattle.traces.specs.Trace.{firstEntry, entriesOf, yes, toldAt, walked, chec
 use Rattle.traces.specs.declared.walk.Checked.{Checked}
 use Rattle.traces.proofs.EntryLaws.{right-whole, after-front, judged-front}
 use Rattle.traces.proofs.TraceLaws.{walked-end, walked-told, walked-on}
+use Rattle.lines.specs.Line.{room}
 use Rattle.trace_files.specs.declared.files.File.{File}
+use Rattle.trace_files.specs.Answer.{answerText}
 use Rattle.trace_files.specs.Turns.{begunFile, mostEntries, goesOn, stoppedAt, rightOn, judgedFirst, IsTurn, Turns, begin, next, answerOf, IsChecked}
+use Rattle.trace_files.proofs.AnswerLaws.{right-fits, told-fits}
 
 -- ---- the first entry of what is held, where `rest` is still to be read: it is whole, or nothing more comes
 
@@ -43,10 +46,13 @@ module _ (held rest : List ℕ) (closed : Bool) (whole : closed ≡ false → en
 abbrev toCome : List ℕ → File → List ℕ → Checked
 toCome rest file input = cond (file .over) (answerOf file) (walked (file .entries + 1) (file .previous) (entriesOf (heldBytes input (file .held) ++ rest)))
 
+right-right : isRight right ≡ true
+unfolding isRight
+right-right = refl
+
 -- where no entry is there, the last one was right
 right-told : (n : ℕ) → cond (isRight right) yes (toldAt n right) ≡ yes
-unfolding isRight
-right-told n = refl
+right-told n = ap (λ (b : Bool). cond b yes (toldAt n right)) right-right
 
 -- the three ways that a turn goes: no entry is there, the first one is not right, or it is
 module _ {file : File} {before after : List ℕ} {r : File} (t : IsTurn file before after r) where
@@ -221,6 +227,23 @@ all-right : {start read input : List ℕ} {file : File} → Turns start read inp
     → length (heldBytes input (file .held)) ≡ 0
 all-right begin over r = absurd (true≢false (sym over))
 all-right (next turns going t) over r = none-held t over r
+
+-- there is room for the line of a file that is over
+pub answer-fits : {start read input : List ℕ} {file : File} → Turns start read input file → file .over ≡ true
+    → length (answerText file (heldBytes input (file .held))) ≤ room
+answer-fits begin over = absurd (true≢false (sym over))
+answer-fits (next {after = after} {file = file} {r = r} turns going t) over = of (went t)
+  where
+    few : r .entries ≤ mostEntries
+    few = few-entries (next turns going t)
+
+    of : Went t → length (answerText r (heldBytes after (r .held))) ≤ room
+    of (at-end e k) = right-fits r (heldBytes after (r .held)) few (ap (λ (q : File). isRight (q .judged)) k ∙ right-right)
+    of (not-right e w k) =
+        let same : r .judged ≡ judged (file .previous) (heldBytes after (r .held)) =
+        ap (λ (q : File). q .judged) k ∙ ap (λ (h : Held). judged (file .previous) (heldBytes after h)) (sym (ap (λ (q : File). q .held) k)) in
+        told-fits r (heldBytes after (r .held)) few (file .previous) same (ap (λ (q : File). isRight (q .judged)) k ∙ w)
+    of (went-on e w k) = absurd (true≢false (sym over ∙ ap (λ (q : File). q .over) k))
 
 -- ---- turns are counted
 

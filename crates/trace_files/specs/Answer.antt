@@ -34,7 +34,7 @@ unfoldable pub wrongText : ℕ → ℕ → ℕ → ℕ → List ℕ
 wrongText number which due found =
     words "entry " ++ decimal number ++ whichText which ++ modeText due ++ words ", not " ++ modeText found ++ words "\n"
 
--- an entry that is refused: the begin of its line
+-- an entry that is refused: the beginning of its line
 unfoldable pub refusedText : ℕ → ℕ → List ℕ
 refusedText number answer = words "entry " ++ decimal number ++ words " is refused: answer " ++ decimal answer ++ words ": "
 

@@ -1,3 +1,4 @@
 pub mod Turns
 pub mod Outcome
 pub mod Answer
+pub mod Reasons

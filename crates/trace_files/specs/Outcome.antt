@@ -10,7 +10,7 @@ traceRight = 0
 abbrev pub traceNotRight : ℕ  -- an entry is wrong, or refused
 traceNotRight = 1
 
-abbrev pub notDone : ℕ  -- it could not be done: the trace cannot be read, or it has the most entries before it was seen to end, or its answer could not be told
+abbrev pub notDone : ℕ  -- it could not be done: the trace cannot be read, or the most entries were right and its end was not reached, or its answer could not be told
 notDone = 2
 
 unfoldable pub outcomeOf : File → Bool → ℕ

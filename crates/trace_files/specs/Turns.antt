@@ -18,7 +18,7 @@ mostEntries = 194176253407468964
 unfoldable pub goesOn : File → Bool
 goesOn file = not (file .over) && not (file .held .failed) && ltb (file .entries) mostEntries
 
--- no entry is right: the file is over, unless it could not be read
+-- the file where it stops: nothing is left, or the next entry is not right. It is over, unless it could not be read
 abbrev pub stoppedAt : File → Held → Judged → File
 stoppedAt file held judged = record {
   held = held;

@@ -1,11 +1,11 @@
-// The line that tells a trace's answer; of a refusal its begin, since what is behind it says why, in words.
+// The line that tells a trace's answer; of a refusal its beginning, since what stands behind that says why, in words.
 use crate::files::File;
 use lines::Line;
 use traces::entry;
 use transitions::names;
 ghost use mathlib.Core.Path.{_≡_};
 ghost use Prim.Native.Nat.{_≤_};
-ghost use Rattle.lines.specs.Line.{lineOf, withText};
+ghost use Rattle.lines.specs.Line.{withText};
 ghost use Rattle.trace_files.specs.Turns.{mostEntries};
 ghost use Rattle.trace_files.specs.Answer.{nameOf, modeText, yesText, whichText, wrongText, refusedText, foundIn, answerText, written};
 

@@ -46,7 +46,7 @@ fn goes_on(file: File) -> bool
     file.entries < MOST_ENTRIES
 }
 
-// The same file where no entry is right.
+// The file where it stops: nothing is left, or the next entry is not right.
 fn stopped(file: File, held: Held, judged: Judged) -> File
     ensures { λ r. ⌜ r ≡ stoppedAt file held judged ⌝ }
 {

@@ -7,9 +7,9 @@ use lines::ROOM;
 use traces::entry;
 use transitions::names;
 ghost use mathlib.Core.Path.{_≡_};
-ghost use Prim.Native.Nat.{_+_, _≤_};
-ghost use Rattle.modes.specs.Flags.{flagCount};
+ghost use Prim.Native.Nat.{_≤_};
 ghost use Rattle.trace_files.specs.Turns.{mostEntries};
+ghost use Rattle.trace_files.specs.Reasons.{badFlag};
 ghost use Rattle.trace_files.specs.Outcome.{outcomeOf};
 
 // Where the outcome is told, as a digit.
@@ -34,7 +34,7 @@ fn put_form(byte: u64, first: &[u8]) -> bool {
     if first.len() < entry::BYTES {
         return put(b"the trace ends within it, after ")
             && put_number(first.len() as u64)
-            && put(b" of its 95 bytes; give the whole trace");
+            && put(b" of its 95 bytes; give the whole trace, and nothing behind it");
     }
     put(b"the mark 4B 56 does not stand at byte ")
         && put_number(byte)
@@ -43,7 +43,7 @@ fn put_form(byte: u64, first: &[u8]) -> bool {
 
 // Where the first flag stands that is neither 0 nor 1; where there is none, behind the flags.
 fn bad_flag(first: &[u8]) -> usize
-    ensures { λ r. ⌜ (3 ≤ r) × (r ≤ 3 + flagCount) ⌝ }
+    ensures { λ r. ⌜ r ≡ badFlag (now (first .entry)) ⌝ }
 {
     let mut at = entry::FLAGS;
     while at < entry::MODE_AFTER {

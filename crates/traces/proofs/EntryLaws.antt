@@ -56,7 +56,7 @@ pub record IsRightEntry (previous : ℕ) (e : List ℕ) : Type 0 where
   pub due : modeAfter e ≡ dueMode e
 
 -- an entry by its four tests: only where all have passed is it right
-abbrev byTests : (whole out chained due : Bool) → ℕ → ℕ → Judged
+abbrev pub byTests : (whole out chained due : Bool) → ℕ → ℕ → Judged
 byTests whole out chained due previous d =
     cond (not whole) (refusedWith badEntry)
     (cond out (refusedWith outOfRange) (cond (not chained) (wrongAt before previous) (cond (not due) (wrongAt after d) right)))

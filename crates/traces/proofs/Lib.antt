@@ -1,3 +1,4 @@
 pub mod EntryLaws
 pub mod TraceLaws
 pub mod RightLaws
+pub mod ToldLaws

@@ -16,15 +16,15 @@ use Rattle.transitions.proofs.NameLaws.{mode-low, mode-high}
 use Rattle.modes.specs.Flags.{flagCount, wrongCount, flagAboveOne}
 use Rattle.modes.specs.Next.{modeOutOfRange, refuses}
 use Rattle.traces.specs.declared.walk.Checked.{Checked}
-use Rattle.traces.specs.Entry.{entryBytes, modeBefore, flagsOf, modeAfter, isEntry, isOutOfRange, follows, dueMode, isRight, judged, right}
-use Rattle.traces.specs.Trace.{firstEntry, entriesOf, yes, toldAt, walked, checked}
+use Rattle.traces.specs.Entry.{entryBytes, modeBefore, flagsOf, modeAfter, isOutOfRange, follows, dueMode, isRight, judged}
+use Rattle.traces.specs.Trace.{firstEntry, entriesOf, yes, walked, checked}
 use Rattle.traces.specs.Right.{entryAt, IsInRange, IsRightTrace}
 use Rattle.traces.proofs.EntryLaws.{entry-marked, entry-whole, is-whole, IsRightEntry, right-means, means-right}
 use Rattle.traces.proofs.TraceLaws.{walked-end, walked-told, walked-on}
 
 -- ---- one entry
 
-in-range : (previous : ℕ) (e : List ℕ) → isOutOfRange previous e ≡ false → IsInRange e
+pub in-range : (previous : ℕ) (e : List ℕ) → isOutOfRange previous e ≡ false → IsInRange e
 unfolding isOutOfRange refuses
 in-range previous e h =
     let refused : Bool = refuses (modeBefore e) (flagsOf e) in
@@ -32,9 +32,9 @@ in-range previous e h =
     let inside = neither refused ends (neither (ltb IS previous) (refused || ends) h .1) in
     let steps = neither (modeOutOfRange (modeBefore e)) (wrongCount (flagsOf e) || flagAboveOne (flagsOf e)) (inside .0) in
     record {
-      before = not-false (isMode (modeBefore e)) (steps .0);
+      start = not-false (isMode (modeBefore e)) (steps .0);
       flags = neither (wrongCount (flagsOf e)) (flagAboveOne (flagsOf e)) (steps .1) .1;
-      after = not-false (isMode (modeAfter e)) (inside .1);
+      end = not-false (isMode (modeAfter e)) (inside .1);
     }
 
 flags-there : (e : List ℕ) → entryBytes ≤ length e → length (flagsOf e) ≡ flagCount
@@ -44,7 +44,7 @@ flags-there e h = omega (arith, length-take flagCount (drop 3 e), length-drop 3 
 not-out : (previous : ℕ) (e : List ℕ) → previous ≤ IS → entryBytes ≤ length e → IsInRange e → isOutOfRange previous e ≡ false
 unfolding isOutOfRange refuses
 not-out previous e low whole r =
-    simp (le-ltb IS previous low, r .before, eq-eqb (length (flagsOf e)) flagCount (flags-there e whole), r .flags, r .after)
+    simp (le-ltb IS previous low, r .start, eq-eqb (length (flagsOf e)) flagCount (flags-there e whole), r .flags, r .end)
 
 -- where something came before, the mode before is its mode after
 follows-means : (previous : ℕ) (e : List ℕ) → (previous ≡ 0 → ⊥) → follows previous e ≡ true → modeBefore e ≡ previous
@@ -102,7 +102,7 @@ module _ (previous : ℕ) (s : List ℕ) (r : IsRightEntry previous (firstEntry 
 
   first-chained : 0 < behind .trace .count → modeBefore (entryAt (drop entryBytes s) 0) ≡ modeAfter (firstEntry s)
   first-chained some =
-      follows-means (modeAfter (firstEntry s)) (entryAt (drop entryBytes s) 0) (λ z. omega (arith, z, mode-low (modeAfter (firstEntry s)) (ranged .after)))
+      follows-means (modeAfter (firstEntry s)) (entryAt (drop entryBytes s) 0) (λ z. omega (arith, z, mode-low (modeAfter (firstEntry s)) (ranged .end)))
       (behind .first some)
 
   all-chained : (i : ℕ) → i + 1 < behind .trace .count + 1 → modeBefore (entryAt s (i + 1)) ≡ modeAfter (entryAt s i)
@@ -185,7 +185,7 @@ right-yes zero n previous s low r e = sym (walked-end n previous s (omega (arith
 right-yes (suc count) n previous s low r e =
     let some : 0 < r .trace .count = omega arith in
     walked-on n previous s (omega (arith, r .trace .whole)) (first-right previous s low r some)
-    ∙ right-yes count (n + 1) (modeAfter (firstEntry s)) (drop entryBytes s) (mode-high (modeAfter (firstEntry s)) (r .trace .inRange 0 some .after))
+    ∙ right-yes count (n + 1) (modeAfter (firstEntry s)) (drop entryBytes s) (mode-high (modeAfter (firstEntry s)) (r .trace .inRange 0 some .end))
     (rest-right previous s low r some count (omega arith)) refl
 
 -- THE THEOREM

@@ -23,12 +23,12 @@ enough (suc n) (suc m) (b ∷ more) h l =
     ap (λ (es : List (List ℕ)). firstEntry (b ∷ more) ∷ es)
     (enough n m (drop entryBytes (b ∷ more)) (omega (arith, length-drop entryBytes (b ∷ more))) (omega (arith, length-drop entryBytes (b ∷ more))))
 
-pub entries-none : (s : List ℕ) → length s ≡ 0 → entriesOf s ≡ []
+entries-none : (s : List ℕ) → length s ≡ 0 → entriesOf s ≡ []
 unfolding entriesOf entriesIn
 entries-none [] e = refl
 entries-none (b ∷ more) e = absurd (omega arith)
 
-pub entries-next : (s : List ℕ) → 0 < length s → entriesOf s ≡ firstEntry s ∷ entriesOf (drop entryBytes s)
+entries-next : (s : List ℕ) → 0 < length s → entriesOf s ≡ firstEntry s ∷ entriesOf (drop entryBytes s)
 unfolding entriesOf entriesIn
 entries-next [] h = absurd (omega arith)
 entries-next (b ∷ more) h =

@@ -13,14 +13,21 @@ entryAt s i = take entryBytes (drop (entryBytes * i) s)
 
 -- its modes are modes, and each flag is 0 or 1
 pub record IsInRange (e : List ℕ) : Type 0 where
-  pub before : isMode (modeBefore e) ≡ true
+  pub start : isMode (modeBefore e) ≡ true
   pub flags : flagAboveOne (flagsOf e) ≡ false
-  pub after : isMode (modeAfter e) ≡ true
+  pub end : isMode (modeAfter e) ≡ true
 
+-- THE TRACE IS RIGHT
 pub record IsRightTrace (s : List ℕ) : Type 0 where
+  -- it has so many entries
   pub count : ℕ
+  -- and nothing behind them
   pub whole : length s ≡ entryBytes * count
+  -- each begins with the mark
   pub marked : (i : ℕ) → i < count → isMarked (entryAt s i) ≡ true
+  -- each has modes and flags in range
   pub inRange : (i : ℕ) → i < count → IsInRange (entryAt s i)
+  -- each but the first begins where the one before it ended
   pub chained : (i : ℕ) → i + 1 < count → modeBefore (entryAt s (i + 1)) ≡ modeAfter (entryAt s i)
+  -- each ends in the mode that the table and the tie rule give
   pub due : (i : ℕ) → i < count → modeAfter (entryAt s i) ≡ dueMode (entryAt s i)

@@ -22,11 +22,11 @@ pub const BAD_ENTRY: u32 = 24;
 pub const NONE: u32 = 0;
 
 // Which of its modes is wrong.
-pub const NEITHER: u32 = 0;
+const NEITHER: u32 = 0;
 
 pub const BEFORE: u32 = 1;
 
-pub const AFTER: u32 = 2;
+const AFTER: u32 = 2;
 
 // What an entry is judged: refused, or one of its modes wrong and another due, or right.
 #[repr(C)]

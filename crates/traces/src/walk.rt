@@ -12,7 +12,7 @@ pub struct Checked {
     pub due: u32,
 }
 
-fn is_yes() -> Checked
+fn yes() -> Checked
     ensures { λ r. ⌜ r ≡ yes ⌝ }
 {
     Checked {
@@ -49,5 +49,5 @@ pub fn check(trace: &[u8]) -> Checked
         number += 1;
         at += entry::BYTES;
     }
-    is_yes()
+    yes()
 }

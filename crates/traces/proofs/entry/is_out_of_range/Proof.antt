@@ -1,6 +1,6 @@
 -- `traces::entry::is_out_of_range` meets its contract.
 use mathlib.Core.Path.{sym, ap, _∙_}
-use mathlib.Core.Bool.{Bool, not}
+use mathlib.Core.Bool.{not}
 use borrow.Author.Tests.{lt-ltb, le-ltb}
 use Rattle.transitions.specs.Names.{isMode}
 use Rattle.modes.specs.declared.Step.{Step}

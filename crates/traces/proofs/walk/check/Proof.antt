@@ -72,7 +72,7 @@ loop-again c =
     subst (Reached _ _ _) (sym after) (next (c .before .before) (not-false _ (c .before .if1 .left)))
 
 returns-2 : tie.Need-returns-2 Inv-loop μ-loop
-returns-2 c = c .is-yes .ensures ∙ reached-end (c .before .before .loop .inv) (c .before .loop-test .left)
+returns-2 c = c .yes .ensures ∙ reached-end (c .before .before .loop .inv) (c .before .loop-test .left)
 
 pub check-spec : {M : Type 1} → statement M
 check-spec =
