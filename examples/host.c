@@ -143,6 +143,28 @@ static void print_trace(const uint8_t *trace, size_t length)
         printf("trace right\n");
 }
 
+/* Checks the same as a host does that holds an entry at a time: the mode after of each right entry is handed on to the next. */
+static void print_entries(const uint8_t *trace, size_t length)
+{
+    uint32_t previous = 0;
+    size_t at;
+    for (at = 0; at < length; at += KB_TRACE_ENTRY_SIZE) {
+        size_t left = length - at;
+        size_t held = left < KB_TRACE_ENTRY_SIZE ? left : KB_TRACE_ENTRY_SIZE;
+        kb_trace_entry_answer checked = kb_check_trace_entry(previous, trace + at, held);
+        if (checked.answer != KB_ACCEPTED) {
+            printf("  refused %u\n", (unsigned)checked.answer);
+            return;
+        }
+        if (checked.wrong != KB_RIGHT) {
+            printf("  mode %s wrong, %u was due\n", checked.wrong == KB_MODE_BEFORE ? "before" : "after", (unsigned)checked.due);
+            return;
+        }
+        previous = trace[at + KB_TRACE_ENTRY_SIZE - 1];
+        printf("  right, and ends in mode %u\n", (unsigned)previous);
+    }
+}
+
 /* Puts an entry of a mode trace, in which one condition is set. */
 static void put_entry(uint8_t *entry, uint8_t before, size_t condition, uint8_t after)
 {
@@ -154,7 +176,8 @@ static void put_entry(uint8_t *entry, uint8_t before, size_t condition, uint8_t 
     entry[KB_TRACE_ENTRY_SIZE - 1] = after;
 }
 
-/* Checks a trace in which SB goes to OS (64), and OS to TR (69); then the same with FS in the place of TR, whole and cut. */
+/* Checks a trace in which SB goes to OS (64), and OS to TR (69); then the same with FS in the place of TR, whole, by its entries and
+ * cut. */
 static void try_traces(void)
 {
     uint8_t trace[2 * KB_TRACE_ENTRY_SIZE];
@@ -164,6 +187,7 @@ static void try_traces(void)
     print_trace(trace, sizeof trace);
     put_entry(trace + KB_TRACE_ENTRY_SIZE, 6, 69, 4);
     print_trace(trace, sizeof trace);
+    print_entries(trace, sizeof trace);
     print_trace(trace, sizeof trace - 1);
 }
 

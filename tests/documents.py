@@ -96,8 +96,8 @@ def kinds():
 
 
 def commands():
-    """What a command prints that stands in RECORDING.md, GATES.md or TRACES.md behind a $."""
-    for path in (DOCS / "RECORDING.md", DOCS / "GATES.md", DOCS / "TRACES.md"):
+    """What a command prints that stands in README.md, RECORDING.md, GATES.md or TRACES.md behind a $."""
+    for path in (ROOT / "README.md", DOCS / "RECORDING.md", DOCS / "GATES.md", DOCS / "TRACES.md"):
         blocks = re.findall(r"```\n\$ (.*)\n((?:.*\n)*?)```", text(path))
         if not blocks:
             yield f"{path.name} shows no command"

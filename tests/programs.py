@@ -8,6 +8,10 @@ import termios
 import time
 
 
+# The seconds in which a program must have read its pieces; one that has not is ended, and what it gave tells.
+PATIENCE = 300
+
+
 class Bench:
     """The program, the file that it is given, and what it did that it should not."""
 
@@ -26,12 +30,15 @@ class Bench:
     def run_in_pieces(self, words, pieces):
         """The same of a run whose standard input comes in these pieces, each given once the one before it is taken."""
         self.runs += 1
+        end = time.monotonic() + PATIENCE
         with subprocess.Popen([self.path, *words], bufsize=0, stdin=subprocess.PIPE, stdout=subprocess.PIPE, stderr=subprocess.PIPE) as program:
             # A program that has ended already is found out by what it gave.
             with contextlib.suppress(BrokenPipeError):
                 for piece in pieces:
                     program.stdin.write(piece)
                     while program.poll() is None and waiting(program.stdin):
+                        if time.monotonic() > end:
+                            program.kill()
                         time.sleep(0.0005)
             output, messages = program.communicate()
         return program.returncode, output, messages

@@ -158,7 +158,7 @@ def changed(bench, count, chance):
 def cut_cases():
     """Traces that end within their first entry or their third, whatever its bytes are."""
     before = entry("SB", [62], "FS") + entry("FS", [], "FS")
-    text = "is refused: answer 24: the trace ends within it, after {} of its 95 bytes; give the whole trace"
+    text = "is refused: answer 24: the trace ends within it, after {} of its 95 bytes; give the whole trace, and nothing behind it"
     for left in (entry("FS", [7], "SB"), entry(14, [1], 0, flag=2), bytes(ENTRY_SIZE)):
         for count in (1, 2, 3, 94):
             yield before + left[:count], f"entry 3 {text.format(count)}"
@@ -266,7 +266,8 @@ def not_done(bench):
 def run_fed(bench, pieces):
     """Exit status, output and peak memory in KB of a run that is fed through a pipe. Of what Python itself starts, Linux tells at least the memory
     that Python takes; so a shell starts the program and ends, and the program becomes a child of this process."""
-    ctypes.CDLL(None).prctl(SET_CHILD_SUBREAPER, 1, 0, 0, 0)
+    if ctypes.CDLL(None).prctl(SET_CHILD_SUBREAPER, 1, 0, 0, 0):
+        sys.exit("the memory of a program cannot be measured here: prctl gives no subreaper, which Linux has")
     bench.runs += 1
     # A shell gives nothing on standard input to what it starts behind itself, so that comes by way of 5.
     command = ["sh", "-c", 'exec 5<&0; "$0" trace <&5 5<&- &', bench.path]

@@ -30,7 +30,7 @@ def mode(number):
 def refusal(found, at):
     """Answer and words of the refusal of an entry that begins at this byte, or None. Its bytes are looked at in their order."""
     if len(found) < ENTRY_SIZE:
-        return f"24: the trace ends within it, after {len(found)} of its {ENTRY_SIZE} bytes; give the whole trace"
+        return f"24: the trace ends within it, after {len(found)} of its {ENTRY_SIZE} bytes; give the whole trace, and nothing behind it"
     if found[:2] != MARK:
         return f"24: the mark 4B 56 does not stand at byte {at}, where it begins; see whether each entry before it has {ENTRY_SIZE} bytes"
     # Behind the mark the mode before is byte 0, the flag of condition n is byte n, and the mode after is the last.

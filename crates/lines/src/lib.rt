@@ -1,4 +1,4 @@
-// The lines of a listing as text: numbers in decimal, a space between them, a newline behind them. It knows numbers only.
+// The lines of a listing as text: numbers in decimal, a space between them, a newline behind them. It knows numbers and words only.
 mod line;
 
 pub use line::Line;

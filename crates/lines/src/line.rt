@@ -29,7 +29,7 @@ impl Line {
         }
     }
 
-    // A byte behind the line. The lines of a listing always have room for it.
+    // A byte behind the line, where there is room for it; the lines of a listing always have it.
     pub(crate) fn with_byte(mut self, b: u8) -> Line
         ensures { λ r. ⌜ r ≡ withByte self b ⌝ }
     {
