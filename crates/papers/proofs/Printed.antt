@@ -11,6 +11,7 @@ use Rattle.framing.specs.Framing.{headRefusal}
 use Rattle.profiles.specs.Profiles.{widthsAt, rulesRefusal}
 use Rattle.profiles.specs.Reading.{entriesOf, bitsOf, shapeRefusal, endRefusal, readRefusal, readAnswer, readInto}
 use Rattle.gates.specs.Gates.{gateRules, gateRefusal}
+use Rattle.transitions.specs.Names.{isMode}
 use Rattle.transitions.specs.Table.{table as transitions}
 use Rattle.modes.specs.Next.{choose, refuses, nextStep}
 use Rattle.kinds.specs.Found.{first, isFound, orElse as orElseFound}
@@ -41,7 +42,7 @@ use Rattle.papers.proofs.Viewed.{ruled, after, endIn, viewed, by-states
 viewed-as-printed : map (λ (l : Line). viewed (l .case)) table ≡ map (λ (l : Line). l .printed) table
 unfolding
     viewed ruled after endIn flagsOf bitAt field total unpack firstSet refuse orElse unlessRefused headRefusal gateRules gateRefusal widthsAt rulesRefusal entriesOf bitsOf
-    shapeRefusal endRefusal readRefusal readAnswer readInto transitions choose refuses nextStep first isFound orElseFound oneTo isPosition isNoneOrLocation locationFrom standsUnder placeUnder room setAt
+    shapeRefusal endRefusal readRefusal readAnswer readInto transitions isMode choose refuses nextStep first isFound orElseFound oneTo isPosition isNoneOrLocation locationFrom standsUnder placeUnder room setAt
     leftFor nearer nearest limitStop orderStop dangerStop orderStops endWith holdsLoco isSought soughtIn findIn isTaken markFor slotMarked marked applied
     among classOf cellOf behind shareOfL1 shareBehind when unless ruledBy granted ticketFor requestGround rowOfFound endAnswer changedIf stepTaken modeStepped done
     endAsked shareGround shareTaken sosGround raised isRequest slotsFor isFree isRun runFrom lowestRun isRunFound startOf inRow namedIn nameGround
