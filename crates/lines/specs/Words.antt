@@ -4,6 +4,7 @@ use Prim.Native.Nat.{ℕ}
 use Prim.Native.Char.{code}
 use Prim.Native.String.{String, [], _∷_}
 
+-- the bytes of words
 unfoldable pub words : String → List ℕ
 words [] = none
 words (c ∷ s) = code c then words s

@@ -8,6 +8,7 @@ use borrow.Author.Tests.{lt-ltb, le-ltb}
 use lib.Dec.{ltb}
 use Rattle.numbers.specs.Numbers.{numberAt}
 use Rattle.modes.specs.Flags.{flagCount}
+use Rattle.traces.specs.Entry.{flagsAt, modeAfterAt}
 use Rattle.trace_files.specs.Reasons.{aboveOneFrom, badFlag}
 
 module _ (e : List ℕ) (at : ℕ) where
@@ -34,6 +35,6 @@ within (suc k) e at = of (ltb 1 (numberAt 1 e at)) (within k e (at + 1))
     of true r = (omega arith, omega arith)
     of false r = (omega (arith, r .0), omega (arith, r .1))
 
-pub flag-within : (e : List ℕ) → (3 ≤ badFlag e) × (badFlag e ≤ 3 + flagCount)
+pub flag-within : (e : List ℕ) → (flagsAt ≤ badFlag e) × (badFlag e ≤ modeAfterAt)
 unfolding badFlag
-flag-within e = within flagCount e 3
+flag-within e = within flagCount e flagsAt

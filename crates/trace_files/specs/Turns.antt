@@ -3,13 +3,13 @@ use mathlib.Core.{Bool.Bool, Bool.true, Bool.false, Bool.not, Bool.cond, Bool._&
 use Prim.Native.Nat.{ℕ, _+_, _*_, _≤_}
 use lib.{Dec.ltb, ListN.length}
 use Rattle.holding.specs.{declared.Held.Held, Held.heldBytes, Held.nothingHeld, Held.behindBy, Held.isEnd, Held.IsReady}
-use Rattle.traces.specs.{Entry.entryBytes, Entry.modeAfter, Entry.right, Entry.isRight, Entry.judged, declared.entry.Judged.Judged}
+use Rattle.traces.specs.{Entry.entryBytes, Entry.modeAfter, Entry.noMode, Entry.right, Entry.isRight, Entry.judged, declared.entry.Judged.Judged}
 use Rattle.traces.specs.{Trace.yes, Trace.toldAt, Trace.checked, declared.walk.Checked.Checked}
 use Rattle.trace_files.specs.declared.files.File.{File}
 
 -- a file of which nothing is read yet
 abbrev pub begunFile : File
-begunFile = record { held = nothingHeld; entries = 0; previous = 0; judged = right; over = false }
+begunFile = record { held = nothingHeld; entries = 0; previous = noMode; judged = right; over = false }
 
 abbrev pub mostEntries : ℕ  -- the most entries of a file: 64 bits count their bytes
 mostEntries = 194176253407468964

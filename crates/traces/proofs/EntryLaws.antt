@@ -15,7 +15,7 @@ use Rattle.transitions.specs.Names.{IS, isMode}
 use Rattle.modes.specs.Flags.{flagCount}
 use Rattle.modes.specs.Next.{refuses, outOfRange, nextStep}
 use Rattle.modes.proofs.Laws.{refused-exactly-on-its-grounds, accepted-otherwise}
-use Rattle.traces.specs.Entry.{entryBytes, modeBefore, flagsOf, modeAfter, isEntry, badEntry, isOutOfRange, follows, dueMode, refusedWith, wrongAt, before, after, right, isRight, judged}
+use Rattle.traces.specs.Entry.{entryBytes, modeBeforeAt, flagsAt, modeAfterAt, modeBefore, flagsOf, modeAfter, isEntry, badEntry, noMode, isOutOfRange, follows, dueMode, refusedWith, wrongAt, before, after, right, isRight, judged}
 use Rattle.traces.specs.declared.entry.Judged.{Judged}
 
 -- the mode step refuses exactly where its answer is not 0
@@ -88,14 +88,14 @@ module _ (previous : ℕ) (e : List ℕ) where
 
 module _ (e : List ℕ) (m : ℕ) (room : entryBytes ≤ m) where
   before-front : modeBefore (take m e) ≡ modeBefore e
-  before-front = number-front 1 e 2 m (omega arith)
+  before-front = number-front 1 e modeBeforeAt m (omega arith)
 
   flags-front : flagsOf (take m e) ≡ flagsOf e
   unfolding flagsOf
-  flags-front = part-front e 3 flagCount m (omega arith)
+  flags-front = part-front e flagsAt flagCount m (omega arith)
 
   pub after-front : modeAfter (take m e) ≡ modeAfter e
-  after-front = number-front 1 e 94 m (omega arith)
+  after-front = number-front 1 e modeAfterAt m (omega arith)
 
   entry-front : isEntry (take m e) ≡ isEntry e
   unfolding isEntry
@@ -107,7 +107,7 @@ module _ (e : List ℕ) (m : ℕ) (room : entryBytes ≤ m) where
 
   follows-front : (previous : ℕ) → follows previous (take m e) ≡ follows previous e
   unfolding follows
-  follows-front previous = λ i. eqb previous 0 || eqb (before-front i) previous
+  follows-front previous = λ i. eqb previous noMode || eqb (before-front i) previous
 
   due-front : dueMode (take m e) ≡ dueMode e
   unfolding dueMode

@@ -5,7 +5,7 @@ use mathlib.Core.Logic.{_⊎_, inl, inr, _↔_}
 use mathlib.Core.List.{List}
 use Prim.Native.Nat.{ℕ, zero, suc, _+_, _*_, _≤_, _<_}
 use native.Mathlib.Omega.{arith}
-use borrow.Author.Tests.{not-false, eqb-true, le-ltb, eq-eqb, ne-eqb}
+use borrow.Author.Tests.{not-false, ltb-false, eqb-true, le-ltb, eq-eqb, ne-eqb}
 use lib.Dec.{eqb, ltb}
 use lib.ListN.{length, take, drop, length-take, length-drop}
 use lib.Seq.{drop-drop}
@@ -16,7 +16,7 @@ use Rattle.transitions.proofs.NameLaws.{mode-low, mode-high}
 use Rattle.modes.specs.Flags.{flagCount, wrongCount, flagAboveOne}
 use Rattle.modes.specs.Next.{modeOutOfRange, refuses}
 use Rattle.traces.specs.declared.walk.Checked.{Checked}
-use Rattle.traces.specs.Entry.{entryBytes, modeBefore, flagsOf, modeAfter, isOutOfRange, follows, dueMode, isRight, judged}
+use Rattle.traces.specs.Entry.{entryBytes, flagsAt, noMode, modeBefore, flagsOf, modeAfter, isOutOfRange, follows, dueMode, isRight, judged}
 use Rattle.traces.specs.Trace.{firstEntry, entriesOf, yes, walked, checked}
 use Rattle.traces.specs.Right.{entryAt, IsInRange, IsRightTrace}
 use Rattle.traces.proofs.EntryLaws.{entry-marked, entry-whole, is-whole, IsRightEntry, right-means, means-right}
@@ -24,22 +24,35 @@ use Rattle.traces.proofs.TraceLaws.{walked-end, walked-told, walked-on}
 
 -- ---- one entry
 
-pub in-range : (previous : ℕ) (e : List ℕ) → isOutOfRange previous e ≡ false → IsInRange e
-unfolding isOutOfRange refuses
-in-range previous e h =
+-- what is not out of range, by the three tests
+pub record Inside (previous : ℕ) (e : List ℕ) : Type 0 where
+  pub previously : previous ≤ IS
+  pub stepped : refuses (modeBefore e) (flagsOf e) ≡ false
+  pub ended : isMode (modeAfter e) ≡ true
+
+pub inside : (previous : ℕ) (e : List ℕ) → isOutOfRange previous e ≡ false → Inside previous e
+unfolding isOutOfRange
+inside previous e h =
     let refused : Bool = refuses (modeBefore e) (flagsOf e) in
     let ends : Bool = not (isMode (modeAfter e)) in
-    let inside = neither refused ends (neither (ltb IS previous) (refused || ends) h .1) in
-    let steps = neither (modeOutOfRange (modeBefore e)) (wrongCount (flagsOf e) || flagAboveOne (flagsOf e)) (inside .0) in
+    let first = neither (ltb IS previous) (refused || ends) h in
+    let rest = neither refused ends (first .1) in
+    record { previously = ltb-false IS previous (first .0); stepped = rest .0; ended = not-false (isMode (modeAfter e)) (rest .1) }
+
+pub in-range : (previous : ℕ) (e : List ℕ) → isOutOfRange previous e ≡ false → IsInRange e
+unfolding refuses
+in-range previous e h =
+    let within = inside previous e h in
+    let steps = neither (modeOutOfRange (modeBefore e)) (wrongCount (flagsOf e) || flagAboveOne (flagsOf e)) (within .stepped) in
     record {
       start = not-false (isMode (modeBefore e)) (steps .0);
       flags = neither (wrongCount (flagsOf e)) (flagAboveOne (flagsOf e)) (steps .1) .1;
-      end = not-false (isMode (modeAfter e)) (inside .1);
+      end = within .ended;
     }
 
 flags-there : (e : List ℕ) → entryBytes ≤ length e → length (flagsOf e) ≡ flagCount
 unfolding flagsOf
-flags-there e h = omega (arith, length-take flagCount (drop 3 e), length-drop 3 e)
+flags-there e h = omega (arith, length-take flagCount (drop flagsAt e), length-drop flagsAt e)
 
 not-out : (previous : ℕ) (e : List ℕ) → previous ≤ IS → entryBytes ≤ length e → IsInRange e → isOutOfRange previous e ≡ false
 unfolding isOutOfRange refuses
@@ -47,10 +60,10 @@ not-out previous e low whole r =
     simp (le-ltb IS previous low, r .start, eq-eqb (length (flagsOf e)) flagCount (flags-there e whole), r .flags, r .end)
 
 -- where something came before, the mode before is its mode after
-follows-means : (previous : ℕ) (e : List ℕ) → (previous ≡ 0 → ⊥) → follows previous e ≡ true → modeBefore e ≡ previous
+follows-means : (previous : ℕ) (e : List ℕ) → (previous ≡ noMode → ⊥) → follows previous e ≡ true → modeBefore e ≡ previous
 unfolding follows
 follows-means previous e some h =
-    eqb-true (modeBefore e) previous (sym (ap (λ (b : Bool). b || eqb (modeBefore e) previous) (ne-eqb previous 0 some)) ∙ h)
+    eqb-true (modeBefore e) previous (sym (ap (λ (b : Bool). b || eqb (modeBefore e) previous) (ne-eqb previous noMode some)) ∙ h)
 
 second : (a b : Bool) → b ≡ true → (a || b) ≡ true
 second true b h = refl
@@ -58,9 +71,9 @@ second false b h = h
 
 means-follows : (previous : ℕ) (e : List ℕ) → modeBefore e ≡ previous → follows previous e ≡ true
 unfolding follows
-means-follows previous e h = second (eqb previous 0) (eqb (modeBefore e) previous) (eq-eqb (modeBefore e) previous h)
+means-follows previous e h = second (eqb previous noMode) (eqb (modeBefore e) previous) (eq-eqb (modeBefore e) previous h)
 
-first-follows : (e : List ℕ) → follows 0 e ≡ true
+first-follows : (e : List ℕ) → follows noMode e ≡ true
 unfolding follows
 first-follows e = refl
 
@@ -192,6 +205,6 @@ right-yes (suc count) n previous s low r e =
 pub yes-exactly-where-right : (s : List ℕ) → (checked s ≡ yes) ↔ IsRightTrace s
 unfolding checked
 yes-exactly-where-right s = (
-  λ y. yes-right (length s) 1 0 s (omega arith) (omega arith) y .trace,
-  λ r. right-yes (r .count) 1 0 s (omega arith) (record { trace = r; first = λ l. first-follows (entryAt s 0) }) refl,
+  λ y. yes-right (length s) 1 noMode s (omega arith) (omega arith) y .trace,
+  λ r. right-yes (r .count) 1 noMode s (omega arith) (record { trace = r; first = λ l. first-follows (entryAt s 0) }) refl,
 )

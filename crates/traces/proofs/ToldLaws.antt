@@ -1,19 +1,16 @@
 -- What is told of an entry: one of two refusals; and of a wrong one, which is in range, a mode as the mode due.
 use mathlib.Core.Path.{_≡_, refl}
-use mathlib.Core.Bool.{Bool, true, false, not, _||_}
+use mathlib.Core.Bool.{Bool, true, false}
 use mathlib.Core.List.{List}
 use Prim.Native.Nat.{ℕ, _≤_}
 use native.Mathlib.Omega.{arith}
-use borrow.Author.Tests.{ltb-false}
-use lib.Dec.{eqb, ltb}
-use Rattle.numbers.proofs.Logic.{neither}
-use Rattle.transitions.specs.Names.{IS, isMode}
-use Rattle.modes.specs.Next.{refuses}
+use lib.Dec.{eqb}
+use Rattle.transitions.specs.Names.{IS}
 use Rattle.modes.proofs.Laws.{next-is-a-mode}
 use Rattle.traces.specs.Entry.{modeBefore, flagsOf, modeAfter, isEntry, badEntry, isOutOfRange, follows, dueMode, judged}
 use Rattle.traces.specs.Right.{IsInRange}
 use Rattle.traces.proofs.EntryLaws.{byTests}
-use Rattle.traces.proofs.RightLaws.{in-range}
+use Rattle.traces.proofs.RightLaws.{inside, in-range}
 
 -- by the four tests
 by-tests : (w o c d : Bool) (previous m : ℕ) → (o ≡ false → previous ≤ IS) → (o ≡ false → m ≤ IS)
@@ -25,17 +22,9 @@ by-tests true false true false previous m h l = (omega arith, l refl, λ z. refl
 by-tests true false true true previous m h l = (omega arith, omega arith, λ z. refl)
 
 module _ (previous : ℕ) (e : List ℕ) where
-  -- in range: the previous mode, and the one that is due
-  previous-low : isOutOfRange previous e ≡ false → previous ≤ IS
-  unfolding isOutOfRange
-  previous-low h = ltb-false IS previous (neither (ltb IS previous) (refuses (modeBefore e) (flagsOf e) || not (isMode (modeAfter e))) h .0)
-
   due-low : isOutOfRange previous e ≡ false → dueMode e ≤ IS
-  unfolding isOutOfRange dueMode
-  due-low h =
-      let refused : Bool = refuses (modeBefore e) (flagsOf e) in
-      let ends : Bool = not (isMode (modeAfter e)) in
-      next-is-a-mode (modeBefore e) (flagsOf e) (neither refused ends (neither (ltb IS previous) (refused || ends) h .1) .0) .1
+  unfolding dueMode
+  due-low h = next-is-a-mode (modeBefore e) (flagsOf e) (inside previous e h .stepped) .1
 
   pub record IsTold : Type 0 where
     pub answer : judged previous e .answer ≤ badEntry
@@ -45,5 +34,6 @@ module _ (previous : ℕ) (e : List ℕ) where
   pub is-told : IsTold
   unfolding judged
   is-told =
-      let told = by-tests (isEntry e) (isOutOfRange previous e) (follows previous e) (eqb (modeAfter e) (dueMode e)) previous (dueMode e) previous-low due-low in
+      let told = by-tests (isEntry e) (isOutOfRange previous e) (follows previous e) (eqb (modeAfter e) (dueMode e)) previous (dueMode e)
+      (λ h. inside previous e h .previously) due-low in
       record { answer = told .0; due = told .1; inRange = λ z. in-range previous e (told .2 z) }

@@ -6,7 +6,7 @@ use Prim.Native.Nat.{ℕ, zero, suc, _+_, _≤_, _<_}
 use native.Mathlib.Omega.{arith}
 use lib.ListN.{length, drop, length-drop}
 use lib.Seq.{drop-drop}
-use Rattle.traces.specs.Entry.{entryBytes, modeAfter, isRight, judged}
+use Rattle.traces.specs.Entry.{entryBytes, modeAfter, noMode, isRight, judged}
 use Rattle.traces.specs.Trace.{firstEntry, entriesIn, entriesOf, yes, toldAt, walked, checked}
 use Rattle.traces.proofs.EntryLaws.{right-whole, after-front, judged-front}
 
@@ -59,7 +59,7 @@ pub record Reached (s : List ℕ) (at n previous : ℕ) : Type 0 where
   pub few : n ≤ at + 1
   pub left : checked s ≡ walked n previous (entriesOf (drop at s))
 
-pub reached-first : (s : List ℕ) → Reached s 0 1 0
+pub reached-first : (s : List ℕ) → Reached s 0 1 noMode
 unfolding checked
 reached-first s = record { inside = omega arith; few = omega arith; left = refl }
 
