@@ -2,8 +2,8 @@
 """Spells this repository's own definitions and lemmas as today's Rattle does: tools/port_names.py [FOLDER]
 
 It turns the names of tools/port_names.tsv in FOLDER (this repository unless said), whole words alone: a row is the old name and the new one and, where the
-old name also names something else, the files that declare it; such a row turns in those files and where a `use` line brings it in from them. What turns are
-the .antt and .rt files and the wrong programs of crates/, and what stands between backticks in README.md, docs/*.md and include/. Functions, fields and types of
+old name also names something else, the files that declare it; such a row turns in those files and where a `use` line brings it in from them. A row that ends
+in a dot is a record's field, and turns behind a dot too. What turns are the .antt and .rt files and the wrong programs of crates/, and what stands between backticks in README.md, docs/*.md and include/. Functions, fields and types of
 src/ keep their names. It is run once, on what port.py has made of a repository in the older form: a second run would turn names that the first one made.
 """
 import os
@@ -17,22 +17,26 @@ SPAN = re.compile(r"`[^`\n]+`")
 
 def rows():
     turned, narrow = {}, {}
+    fields = set()
     with open(os.path.join(HERE, "port_names.tsv"), encoding="utf-8") as f:
         for line in f:
             old, new, *files = line.rstrip("\n").split("\t")
-            if files:
+            if files == ["."]:
+                fields.add(old)
+                turned[old] = new
+            elif files:
                 narrow[old] = (new, files[0].split())
             else:
                 turned[old] = new
-    return turned, narrow
+    return turned, narrow, fields
 
 
-def words(text, table, everywhere):
-    """The text with the words of a table turned. Behind a dot a name with a dash is a label that Rattle made, and stays."""
+def words(text, table, fields, everywhere):
+    """The text with the words of a table turned. Behind a dot a name with a dash is a label that Rattle made, and stays, unless it is a record's field."""
 
     def turn(m):
         new = table.get(m[0])
-        if new is None or (not everywhere and "-" in m[0] and text[m.start() - 1 : m.start()] == "."):
+        if new is None or (not everywhere and "-" in m[0] and m[0] not in fields and text[m.start() - 1 : m.start()] == "."):
             return m[0]
         return new
 
@@ -43,7 +47,7 @@ def is_import(line):
     return re.match(r"\s*(pub )?(ghost )?use ", line) is not None
 
 
-def code(text, table, mark):
+def code(text, table, fields, mark):
     """A file of code, line by line. In a comment a word turns that the file's code has, or that has a capital inside."""
     used = set()
     for line in text.split("\n"):
@@ -52,7 +56,7 @@ def code(text, table, mark):
     lines = []
     for line in text.split("\n"):
         before, dashes, comment = line.partition(mark)
-        lines.append(words(before, table, is_import(before)) + dashes + words(comment, said, True))
+        lines.append(words(before, table, fields, is_import(before)) + dashes + words(comment, said, fields, True))
     return "\n".join(lines)
 
 
@@ -66,15 +70,15 @@ def imported(text, name, path):
     return re.search(r"use " + re.escape(module(path)) + r"\.\{[^}]*(?<![^\s{,])" + re.escape(name) + r"(?![^\s},])", text) is not None
 
 
-def turned_file(root, name, turned, narrow):
+def turned_file(root, name, turned, narrow, fields):
     with open(os.path.join(root, name), encoding="utf-8") as f:
         text = f.read()
     if name.endswith(".md") or name.endswith(".h"):
-        return SPAN.sub(lambda m: words(m[0], turned, True), text)
+        return SPAN.sub(lambda m: words(m[0], turned, fields, True), text)
     for old, (new, files) in narrow.items():
         if name in files or any(imported(text, old, path) for path in files):
             text = re.sub(r"(?<![^\s(){},;\[])" + re.escape(old) + r"(?![^\s(){}.,;\]])", new, text)
-    return code(text, turned, "//" if name.endswith(".rt") else "--")
+    return code(text, turned, fields, "//" if name.endswith(".rt") else "--")
 
 
 def names(root):
@@ -92,12 +96,12 @@ def names(root):
 
 def main(argv):
     root = argv[0] if argv else os.path.dirname(HERE)
-    turned, narrow = rows()
+    turned, narrow, fields = rows()
     count = 0
     for name in names(root):
         with open(os.path.join(root, name), encoding="utf-8") as f:
             was = f.read()
-        now = turned_file(root, name, turned, narrow)
+        now = turned_file(root, name, turned, narrow, fields)
         if now != was:
             count += 1
             with open(os.path.join(root, name), "w", encoding="utf-8") as f:

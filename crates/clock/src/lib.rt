@@ -1,4 +1,6 @@
 // The frame age (document 01, "Frame age"; document 02, T-02), and whether the conditions that hang on it hold.
+#![tactic(auto)]
+
 ghost use Rattle.std.specs.Prelude.{◌≡◌, false};
 ghost use Rattle.clock.specs.Age.{not_a_frame, refuses, difference, aged, frame_age};
 

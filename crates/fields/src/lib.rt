@@ -1,5 +1,7 @@
 // Fields of bits, read and put by their bit position: bits run from the top bit of the first byte, a bit past the end reads as 0, and putting one
 // there does nothing. What a field is, `numbers` says for every width; here it is read from whole bytes, and shifted.
+#![tactic(auto)]
+
 pub mod search;
 mod windows;
 

@@ -1,5 +1,7 @@
 // The three kinds of number that name something in a session. Each is compared by its own `is`, tickets by `is_above` too, so that a loco
 // number or a slot can't reach a ticket comparison, and each knows its range.
+#![tactic(auto)]
+
 pub mod found;
 pub mod ranges;
 

@@ -1,4 +1,6 @@
 // The lines of a listing as text: numbers in decimal, a space between them, a newline behind them. It knows numbers and words only.
+#![tactic(auto)]
+
 mod line;
 
 ghost use Rattle.lines.specs.Line.{IsLineOf};

@@ -1,4 +1,6 @@
 // Our two-byte mark, 4B 56: every record of a recording and every entry of a trace begins with it.
+#![tactic(auto)]
+
 ghost use Rattle.std.specs.Prelude.{◌≡◌};
 ghost use Rattle.mark_bytes.specs.Mark.{is_marked};
 

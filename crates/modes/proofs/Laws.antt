@@ -149,7 +149,7 @@ module _ (m : ℕ) (flags : List ℕ) (good : refuses m flags ≡ false) where
     λ t.
         tie_is
         ∙ two-mark (length (winners (opens m flags)))
-        (two_in (winners (opens m flags)) (in_winners t.one t.one-open t.one-shares) (in_winners t.other t.other-open t.other-shares) t.apart),
+        (two_in (winners (opens m flags)) (in_winners t.one t.one_open t.one_shares) (in_winners t.other t.other_open t.other_shares) t.apart),
   )
 
   pub tie_is_a_mark : (next_step m flags).tie ≤ 1

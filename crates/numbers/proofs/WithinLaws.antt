@@ -98,8 +98,10 @@ unpack_within : (s : List ℕ) (p k : ℕ) (ws : List ℕ) → unpack s (p + k) 
 unfolding unpack cut total
 unpack_within s p k [] = refl
 unpack_within s p k (w ∷ ws) =
-    rw (← add_assoc k w (total ws), add_assoc p k w)
-    (ap₂ (λ (x : ℕ) (l : List ℕ). x ∷ l) (field_within s p k w (total ws)) (unpack_within s p (k + w) ws))
+    ap₂ (λ (x : ℕ) (l : List ℕ). x ∷ l)
+    (field_within s p k w (total ws))
+    (ap (λ (q : ℕ). unpack s q ws) (add_assoc p k w) ∙ unpack_within s p (k + w) ws)
+    ∙ ap (λ (n : ℕ). field s p n / 2 ^ total ws % 2 ^ w ∷ cut (field s p n) ws) (add_assoc k w (total ws))
 
 pub unpack_cut : (s : List ℕ) (p : ℕ) (ws : List ℕ) → unpack s p ws ≡ cut (field s p (total ws)) ws
 unpack_cut s p ws =

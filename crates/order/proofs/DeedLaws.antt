@@ -52,11 +52,11 @@ pub record DeedsKeep (P : Train → Type 0) (t : Train) : Type 0 where
 -- then it holds of the train after any deed
 pub after_deed : (P : Train → Type 0) (t : Train) → DeedsKeep P t → (d : Deed) → P (done d t).train
 unfolding done
-after_deed P t b (flags fs) = step-taken P t b.as_it_was (next_step t.mode fs) (b.in-mode fs)
+after_deed P t b (flags fs) = step-taken P t b.as_it_was (next_step t.mode fs) (b.in_mode fs)
 after_deed P t b (position front rear) = changed_if_lem P t b.as_it_was _ _ _ (b.at_position front rear)
 after_deed P t b (authority end) = changed_if_lem P t b.as_it_was _ _ _ (b.with-authority end)
 after_deed P t b (danger location) = changed_if_lem P t b.as_it_was _ _ _ (b.with-danger location)
-after_deed P t b (clear other) = changed_if_lem P t b.as_it_was _ _ _ (b.without-order other)
+after_deed P t b (clear other) = changed_if_lem P t b.as_it_was _ _ _ (b.without_order other)
 
 -- no deed makes it another train
 pub deed_same : (d : Deed) (t : Train) → SameTrain (done d t).train t

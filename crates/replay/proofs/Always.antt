@@ -44,8 +44,8 @@ module _ (R : Rules) (P : ℕ → R.View → Type 0) where
   along_back (suc k) c v (e ∷ es) a = along_back k c (undo e v) es a.1
 
   along_higher : Lasts R P → (c d : ℕ) (v : View) (es : List Entry) → c ≤ d → d ≤ last_ticket → Along c v es → Along d v es
-  along_higher l c d v [] up fits a = l.at-higher c d v up fits a
-  along_higher l c d v (e ∷ es) up fits a = (l.at-higher c d v up fits a.0, along_higher l c d (undo e v) es up fits a.1)
+  along_higher l c d v [] up fits a = l.at_higher c d v up fits a
+  along_higher l c d v (e ∷ es) up fits a = (l.at_higher c d v up fits a.0, along_higher l c d (undo e v) es up fits a.1)
 
 -- ── one call ──
 

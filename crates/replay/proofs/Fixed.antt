@@ -29,6 +29,6 @@ module _ {R : Rules} (S : Session R) where
       → (view_in S b' ≡ view_in S b'') × (counter_in S b' ≡ counter_in S b'') × (kept_in S b' ≡ kept_in S b'')
   demand3_fixes b b' b'' h p q = (
     replay_fixed R (standing h) (view_in S b) (view_in S b') (view_in S b'') p.replayed q.replayed,
-    issued_fixed R (counter_in S b) (counter_in S b') (counter_in S b'') (tickets R h) p.tickets-rise q.tickets-rise,
+    issued_fixed R (counter_in S b) (counter_in S b') (counter_in S b'') (tickets R h) p.tickets_rise q.tickets_rise,
     p.kept-is ∙ sym q.kept-is,
   )

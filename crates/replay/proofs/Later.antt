@@ -41,14 +41,14 @@ module _ {R : Rules} (S : Session R) (L : Lawful R) (K : Kept S) where
 
   -- every ticket issued is at most the counter now
   pub tickets_below : (b b' : Bytes) (h : History R) → Starts S b → Made S b h b' → (i : ℕ) → i < length (tickets R h) → get_or (tickets R h) i 0 ≤ counter_in S b'
-  tickets_below b b' h start made i l = issued_below R (counter_in S b) (counter_in S b') (tickets R h) i (demand3 S L K b b' h start made).tickets-rise l
+  tickets_below b b' h start made i l = issued_below R (counter_in S b) (counter_in S b') (tickets R h) i (demand3 S L K b b' h start made).tickets_rise l
 
   -- the tickets of later calls rise from the counter that the earlier ones left
   pub tickets-after : (b m b' : Bytes) (h g : History R) → Starts S b → Made S b h m → Made S m g b' → Issued R (counter_in S m) (tickets R g) (counter_in S b')
   tickets-after b m b' h g start made more =
-      issued-rest R (counter_in S b) (counter_in S m) (counter_in S b') (tickets R h) (tickets R g) (demand3 S L K b m h start made).tickets-rise
+      issued-rest R (counter_in S b) (counter_in S m) (counter_in S b') (tickets R h) (tickets R g) (demand3 S L K b m h start made).tickets_rise
       (subst (λ (ts : List ℕ). Issued R (counter_in S b) ts (counter_in S b')) (tickets_join R h g)
-      (demand3 S L K b b' (h ++ g) start (made_join b m b' h g made more)).tickets-rise)
+      (demand3 S L K b b' (h ++ g) start (made_join b m b' h g made more)).tickets_rise)
 
   -- NO TICKET AGAIN: each that later calls issue is above each that was issued before
   pub tickets-later : (b m b' : Bytes) (h g : History R) → Starts S b → Made S b h m → Made S m g b'

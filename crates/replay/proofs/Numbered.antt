@@ -54,4 +54,4 @@ module _ {R : Rules} (S : Session R) (L : Lawful R) (K : Kept S) (by_one : (o : 
   pub tickets_numbered : (b b' : Bytes) (h : History R) → Starts S b → Made S b h b' → (i : ℕ) → i < length (tickets R h)
       → get_or (tickets R h) i 0 ≡ suc (counter_in S b + i)
   tickets_numbered b b' h start m i l =
-      issued-next R (counter_in S b) (counter_in S b') (tickets R h) (demand3 S L K b b' h start m).tickets-rise (counter_rises b b' h start m) i l
+      issued-next R (counter_in S b) (counter_in S b') (tickets R h) (demand3 S L K b b' h start m).tickets_rise (counter_rises b b' h start m) i l

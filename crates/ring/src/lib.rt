@@ -1,4 +1,6 @@
 // The notches of a ring that keeps the newest DEPTH entries of a log, and the number of entries that it keeps.
+#![tactic(auto)]
+
 ghost use Rattle.std.specs.Prelude.{suc, min, ◌≡◌};
 ghost use Rattle.replay.specs.Demand3.{depth};
 ghost use Rattle.ring.specs.Ring.{after, before};

@@ -1,4 +1,6 @@
 // The 80 transitions between the modes (document 01, "Modes"), each by its bytes, those of a mode together.
+#![tactic(auto)]
+
 pub mod names;
 mod table;
 

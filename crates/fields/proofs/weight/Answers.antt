@@ -1,0 +1,9 @@
+-- `fields::weight` meets its contract: the shift loses nothing.
+use native.Mathlib.Omega.{arith}
+use mathlib.Core.Path.{◌∙◌}
+use native.Mathlib.Nat.{one-mul}
+use lib.Pow.{shl_exact}
+use Rattle.fields.proofs.weight.Goals as goal
+
+pub returns : goal.returns
+returns c = shl_exact {a = 1} 1 c.args.k 64 (omega arith) (omega arith) ∙ one-mul _
