@@ -15,7 +15,7 @@ use records::form::LONGEST;
 mod pending;
 
 // A play between two records. It is over once its last record is listed.
-#[derive(Drop)]
+#[derive(Clone, Copy)]
 struct Play {
     held: Held,
     pending: Pending,

@@ -6,7 +6,7 @@ ghost use Rattle.bench.specs.Pending.{nothing_pending, with_more, HasRoom};
 use libc::STDOUT_FILENO;
 
 // The first `filled` bytes of the buffer. It is writable until a write fails.
-#[derive(Drop)]
+#[derive(Clone, Copy)]
 pub(crate) struct Pending {
     pub filled: usize,
     pub writable: bool,

@@ -12,7 +12,7 @@ const OUT_OF_RANGE: u32 = 17;
 
 // The conditions are 1 where they hold; of condition 24 this is the part that looks at the frames.
 #[repr(C)]
-#[derive(Drop)]
+#[derive(Clone, Copy)]
 pub struct FrameAge {
     pub answer: u32,
     pub age: u32,

@@ -1,5 +1,7 @@
 // The first sub-packet of lent bytes: what refuses it, and where it ends (radio annex). No crate of sub-packets knows anything of trains. The
 // header is read as one number of 16 bits: its 4 highest digits are the type, the next 7 the length.
+#![tactic(auto)]
+
 pub mod refusals;
 
 ghost use Rattle.std.specs.Prelude.{◌≡◌, ◌<◌};

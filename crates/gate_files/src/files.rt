@@ -18,7 +18,7 @@ const MOST_PACKETS: u32 = 4294967295;
 
 // A file between two turns: what is held of it, the sub-packets that were moved, their bytes in the file, and the bytes that the last turn made. It is
 // over once nothing is left or a sub-packet is refused, and writable until a write fails.
-#[derive(Drop)]
+#[derive(Clone, Copy)]
 pub(crate) struct File {
     pub held: Held,
     pub packets: u32,

@@ -6,7 +6,7 @@ mod telling;
 use gates::forms::Form;
 
 // The form that is read, by the program's word.
-#[derive(Drop)]
+#[derive(Clone, Copy)]
 enum Way {
     From(Form),
     Unclear,

@@ -18,7 +18,7 @@ use gates::forms::Form;
 // What a move answers: 0 with the gates, the bytes of the sub-packet that was read and of the one that was written, or a refusal's number and place
 // with zeros. The place is counted in the sub-packet that was read.
 #[repr(C)]
-#[derive(Drop)]
+#[derive(Clone, Copy)]
 pub struct GatesMoved {
     pub answer: u32,
     pub place: usize,

@@ -2,14 +2,14 @@
 ghost use Rattle.std.specs.Prelude.{◌≡◌};
 ghost use Rattle.gates.specs.Forms.{layout_of, other_form};
 
-#[derive(Drop)]
+#[derive(Clone, Copy)]
 pub enum Form {
     Old,
     New,
 }
 
 // The width of a form's distance in bits, the metres that one of it means, the farthest in metres, and the most gates of a sub-packet.
-#[derive(Drop)]
+#[derive(Clone, Copy)]
 pub struct Layout {
     pub distance: u8,
     pub unit: u32,

@@ -6,7 +6,7 @@ ghost use Rattle.holding.specs.Held.{held_bytes, held_at, nothing_held, behind_b
 use libc::STDIN_FILENO;
 
 // The bytes of the buffer from `at` up to `end`. The input has ended once a read has given nothing, and failed where that read did.
-#[derive(Drop)]
+#[derive(Clone, Copy)]
 pub struct Held {
     pub at: usize,
     pub end: usize,
@@ -15,7 +15,7 @@ pub struct Held {
 }
 
 // What one read gave.
-#[derive(Drop)]
+#[derive(Clone, Copy)]
 struct Got {
     count: usize,
     failed: bool,

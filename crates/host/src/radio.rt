@@ -24,7 +24,7 @@ use traces::walk::Checked;
 
 // The refusal of the first sub-packet with its place, and where the sub-packet lies in the lent bytes: from their start on, or nowhere.
 #[repr(C)]
-#[derive(Drop)]
+#[derive(Clone, Copy)]
 pub struct FrameAnswer {
     pub answer: u32,
     pub place: usize,

@@ -8,7 +8,7 @@ use trains::record::{Limit, Order, Position, Train};
 
 // An order: the other train's ticket, 0 for no order; and the limit in metres, or none for a bare one.
 #[repr(C)]
-#[derive(Drop)]
+#[derive(Clone, Copy)]
 pub struct OrderTold {
     pub ticket: u32,
     pub limit: u32,
@@ -16,7 +16,7 @@ pub struct OrderTold {
 
 // A row of the register: 0 with the record's numbers, or a refusal's number with zeros. An empty row has loco 0.
 #[repr(C)]
-#[derive(Drop)]
+#[derive(Clone, Copy)]
 pub struct TrainAnswer {
     pub answer: u32,
     pub loco: u32,

@@ -14,13 +14,13 @@ pub const LAST_TICKET: u32 = 65535;
 
 pub const LAST_SLOT: u32 = 44;
 
-#[derive(Drop)]
+#[derive(Clone, Copy)]
 pub struct Loco(pub u32);
 
-#[derive(Drop)]
+#[derive(Clone, Copy)]
 pub struct Ticket(pub u32);
 
-#[derive(Drop)]
+#[derive(Clone, Copy)]
 pub struct Slot(pub u32);
 
 impl Loco {

@@ -3,7 +3,7 @@ ghost use Rattle.std.specs.Prelude.{◌≡◌};
 ghost use Rattle.kinds.specs.Ranges.{one_to, is_location, is_position, is_grid, is_none_or_location, location_from};
 
 // A location that may be missing.
-#[derive(Drop)]
+#[derive(Clone, Copy)]
 pub enum Location {
     Nowhere,
     At(u32),

@@ -12,7 +12,7 @@ const SPACE: u8 = b' ';
 pub(crate) const NEWLINE: u8 = b'\n';
 
 // The first `len` bytes are the line, its newline with it; those behind are 0.
-#[derive(Drop)]
+#[derive(Clone, Copy)]
 pub struct Line {
     pub bytes: [u8; ROOM],
     pub len: usize,

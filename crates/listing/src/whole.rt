@@ -11,7 +11,7 @@ use crate::runs;
 pub const OUTPUT_TOO_SMALL: u32 = 1;
 
 // The answer, and the bytes of the listing that was written.
-#[derive(Drop)]
+#[derive(Clone, Copy)]
 pub struct Listed {
     pub answer: u32,
     pub written: usize,

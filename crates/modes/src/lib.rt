@@ -1,4 +1,6 @@
 // The mode step (document 01, "Modes"): of the open transitions of a mode, the one of the best priority, by the lowest target.
+#![tactic(auto)]
+
 mod flags;
 pub mod plain;
 mod widening;
@@ -18,7 +20,7 @@ use widening::{condition, number};
 pub const OUT_OF_RANGE: u32 = 17;
 
 #[repr(C)]
-#[derive(Drop)]
+#[derive(Clone, Copy)]
 pub struct Step {
     pub answer: u32,
     pub mode: u32,

@@ -13,7 +13,7 @@ use crate::{OUT_OF_RANGE, Step, is_refused};
 use transitions::{Transitions, leaves_from};
 
 // The best so far. A priority of 0 is none so far: then the mode stays.
-#[derive(Drop)]
+#[derive(Clone, Copy)]
 struct Best {
     mode: u32,
     priority: u32,

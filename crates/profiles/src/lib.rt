@@ -1,5 +1,7 @@
 // Profiles: sub-packets of type, length, count, and so many entries (radio annex). Here is what reading and writing them share, whatever their
 // entries are; `bits` is the bits of a sub-packet before its padding.
+#![tactic(auto)]
+
 ghost use Rattle.std.specs.Prelude.{◌≡◌};
 ghost use Rattle.numbers.specs.Fields.{field};
 ghost use Rattle.profiles.specs.Profiles.{bytes_for, padding_for};
@@ -12,7 +14,7 @@ use framing::refusals::Refusal;
 
 // What a read answers: 0 with the entries and the bytes of the sub-packet, or a refusal's number and place with zeros.
 #[repr(C)]
-#[derive(Drop)]
+#[derive(Clone, Copy)]
 pub struct EntriesRead {
     pub answer: u32,
     pub place: usize,
@@ -22,7 +24,7 @@ pub struct EntriesRead {
 
 // What a write answers: 0 with the entries and the bytes of the sub-packet, or a refusal's number with zeros.
 #[repr(C)]
-#[derive(Drop)]
+#[derive(Clone, Copy)]
 pub struct EntriesWritten {
     pub answer: u32,
     pub entries: usize,

@@ -7,7 +7,7 @@ use kinds::{Loco, Ticket};
 use rules::deeds::Deed;
 
 // The flags of a deed are lent beside it. L2 is named first, then L1.
-#[derive(Drop)]
+#[derive(Clone, Copy)]
 pub enum Asked {
     Request(Loco, u32),
     Release(Loco, Ticket),

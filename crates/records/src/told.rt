@@ -7,7 +7,7 @@ use rules::ruling::Answer;
 
 // Its line's six numbers, and the bytes that it used.
 #[repr(C)]
-#[derive(Drop)]
+#[derive(Clone, Copy)]
 pub struct Ran {
     pub number: u64,
     pub kind: u32,

@@ -1,4 +1,6 @@
 // The register: 24 rows, one behind the other, from a byte of the lent bytes on. A search looks at the rows in order.
+#![tactic(auto)]
+
 ghost use Rattle.std.specs.Prelude.{◌≡◌, ◌+◌, ◌*◌, ◌<◌};
 ghost use Rattle.numbers.specs.Numbers.{number_at};
 ghost use Rattle.trains.specs.Sought.{row_count};

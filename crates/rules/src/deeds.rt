@@ -4,7 +4,7 @@ use kinds::Ticket;
 use trains::record::Train;
 
 // Flags are lent beside the deed, since an enum holds no slice.
-#[derive(Drop)]
+#[derive(Clone, Copy)]
 pub enum Deed {
     Flags,
     Position(u32, u32),
@@ -14,7 +14,7 @@ pub enum Deed {
 }
 
 // The answer, and the train afterwards; the same train where the deed is refused.
-#[derive(Drop)]
+#[derive(Clone, Copy)]
 pub struct Changed {
     pub answer: Answer,
     pub train: Train,

@@ -9,7 +9,7 @@ use trains::record::Train;
 use trains::sought::ROWS;
 
 // The loco that was named, and whether a live train has it and the ticket: then the train and its row, else a blank one and no row.
-#[derive(Drop)]
+#[derive(Clone, Copy)]
 pub struct Named {
     pub loco: Loco,
     pub live: bool,

@@ -1,5 +1,5 @@
 // One train of an SOS as it is judged: whether its loco number is in range and names a live train, its row and row class, and what its share lacks.
-#[derive(Drop)]
+#[derive(Clone, Copy)]
 pub struct Side {
     pub loco: bool,
     pub live: bool,

@@ -10,7 +10,7 @@ use trains::sought::ROWS;
 
 // What a call answers: 0 with three numbers, or a refusal's number with zeros.
 #[repr(C)]
-#[derive(Drop)]
+#[derive(Clone, Copy)]
 pub struct Answer {
     pub answer: u32,
     pub first: u32,
@@ -18,7 +18,7 @@ pub struct Answer {
     pub third: u32,
 }
 
-#[derive(Drop)]
+#[derive(Clone, Copy)]
 pub struct Ruling {
     pub answer: Answer,
     pub counter: Ticket,

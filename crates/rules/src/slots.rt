@@ -7,7 +7,7 @@ use kinds::Slot;
 const MOST_SLOTS: u64 = 6;
 
 // The lowest start of a run of free slots that is long enough, if there is one.
-#[derive(Drop)]
+#[derive(Clone, Copy)]
 pub enum FreeRun {
     NoRun,
     From(Slot),

@@ -15,7 +15,7 @@ const M5: u32 = 5;
 const M6: u32 = 6;
 
 // What one train of an SOS gets. `NoPosition`: a position that the measure needs was never reported.
-#[derive(Drop)]
+#[derive(Clone, Copy)]
 pub enum Share {
     Nothing,
     NoPosition,

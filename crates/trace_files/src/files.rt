@@ -11,7 +11,7 @@ const MOST_ENTRIES: u64 = 194176253407468964;
 
 // A trace between two turns: what is held of it, the entries that were right, and the mode after of the last of them, or none. It is over once nothing
 // is left, or an entry is not right: then what is held begins with that one, judged so.
-#[derive(Drop)]
+#[derive(Clone, Copy)]
 pub(crate) struct File {
     pub held: Held,
     pub entries: u64,

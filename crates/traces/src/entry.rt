@@ -31,7 +31,7 @@ const AFTER: u32 = 2;
 
 // What an entry is judged: refused, or one of its modes wrong and another due, or right.
 #[repr(C)]
-#[derive(Drop)]
+#[derive(Clone, Copy)]
 pub struct Judged {
     pub answer: u32,
     pub wrong: u32,

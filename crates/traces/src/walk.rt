@@ -7,7 +7,7 @@ use crate::entry::Judged;
 
 // The first entry that is refused or wrong, counted from 1, with the refusal or the mode due; zeros where there is none.
 #[repr(C)]
-#[derive(Drop)]
+#[derive(Clone, Copy)]
 pub struct Checked {
     pub answer: u32,
     pub entry: usize,

@@ -1,4 +1,6 @@
 // What is said of one train before there is a session.
+#![tactic(auto)]
+
 pub mod authority;
 pub mod changes;
 pub mod orders;

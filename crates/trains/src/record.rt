@@ -6,28 +6,28 @@ use kinds::ranges::Location;
 use kinds::{Loco, Slot, Ticket};
 
 // Front and rear, or none reported.
-#[derive(Drop)]
+#[derive(Clone, Copy)]
 pub enum Position {
     Unknown,
     Between(u32, u32),
 }
 
 // An order is a limit in metres, or bare.
-#[derive(Drop)]
+#[derive(Clone, Copy)]
 pub enum Limit {
     Bare,
     To(u32),
 }
 
 // An order under the other train's ticket. Ticket 0, which no grant gives, is no order: its place is free.
-#[derive(Drop)]
+#[derive(Clone, Copy)]
 pub struct Order {
     pub other: Ticket,
     pub limit: Limit,
 }
 
 // Where a train is, how far it may go, and the danger location ahead of it.
-#[derive(Drop)]
+#[derive(Clone, Copy)]
 pub struct Track {
     pub position: Position,
     pub granted: Location,
@@ -35,7 +35,7 @@ pub struct Track {
 }
 
 // `left` is the mode left for Override, and 0 in any other mode. An empty register row has loco 0.
-#[derive(Drop)]
+#[derive(Clone, Copy)]
 pub struct Train {
     pub loco: Loco,
     pub ticket: Ticket,

@@ -5,7 +5,7 @@ use kinds::{Loco, Ticket};
 pub const ROWS: usize = 24;
 
 // A loco and a ticket together, a loco, or an empty row.
-#[derive(Drop)]
+#[derive(Clone, Copy)]
 pub enum Sought {
     Pair(Loco, Ticket),
     Number(Loco),
