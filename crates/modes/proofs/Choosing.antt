@@ -1,5 +1,5 @@
 -- The choice among open transitions, one transition after the other.
-use mathlib.Core.Path.{◌≡◌, refl, ap, ◌∙◌, sym}
+use mathlib.Core.Path.{◌≡◌, refl, ap, ap₂, ◌∙◌, sym}
 use mathlib.Core.Bool.{Bool, true, false, cond}
 use mathlib.Core.List.{List, [], ◌∷◌, ◌++◌, append-nil, Memᴰ}
 use mathlib.Core.Logic.{⊎_elim}
@@ -38,7 +38,9 @@ none_better p xs h =
 -- the choice, where the best priority and the transitions that have it are known
 chosen : (m : ℕ) (x : Transition) (xs : List Transition) (p : ℕ) (ws : List Transition) → best (x ∷ xs) ≡ p → those (has_priority p) (x ∷ xs) ≡ ws → choose m (x ∷ xs) ≡ accepted (lowest ws) p (tie_mark (length ws))
 unfolding choose
-chosen m x xs p ws e w = rw (e, w)
+chosen m x xs p ws e w =
+    ap₂ (λ (ws : List Transition) (p : ℕ). accepted (lowest ws) p (tie_mark (length ws)))
+    (ap (λ (q : ℕ). those (has_priority q) (x ∷ xs)) e ∙ w) e
 
 -- one more open transition: the first, a better one, a worse one, one that shares the best priority
 choose_one : (m : ℕ) (a : Transition) → choose m (a ∷ []) ≡ accepted a.target a.priority 0

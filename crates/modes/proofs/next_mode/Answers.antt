@@ -4,17 +4,18 @@ use Prim.Native.Nat.{◌+◌}
 use native.Mathlib.Omega.{arith}
 use Rattle.transitions.proofs.Held.{starts_rise, starts_in}
 use Rattle.modes.proofs.Stepping.{Taken, taken, next-refused, next-walked}
+use Rattle.modes.proofs.next_mode.Goals.{Else-is_refused}
 use Rattle.modes.proofs.next_mode.Goals as goal
 
 pub returns-then-is_refused : goal.returns-then-is_refused
 returns-then-is_refused c = next-refused _ _ (sym c.is_refused.ensures ∙ c.if-is_refused.true)
 
 -- the input is not refused
-passed : (c : goal.Else-is_refused) → Taken c.args.mode c.args.flags.now
+passed : (c : Else-is_refused) → Taken c.args.mode c.args.flags.now
 passed c = taken _ _ (sym c.is_refused.ensures ∙ c.if-is_refused.false)
 
 pub overflow_add-mode : goal.overflow_add-mode
-overflow_add-mode c = omega (arith, passed c)
+overflow_add-mode c = omega (arith, passed (goal.at.overflow_add-mode c).Else-is_refused)
 
 pub walk-requires : goal.walk-requires
 walk-requires c =

@@ -8,9 +8,10 @@ use Rattle.framing.specs.Refusals.{padding_set}
 use Rattle.framing.proofs.RefusalLaws.{below, not_below, last_not_below, last_below}
 use Rattle.profiles.specs.Profiles.{padding_for}
 use Rattle.profiles.specs.Reading.{end_refusal}
+use Rattle.profiles.proofs.end_refusal.Goals.{Start}
 use Rattle.profiles.proofs.end_refusal.Goals as goal
 
-abbrev padding : goal.Start → ℕ
+abbrev padding : Start → ℕ
 padding c = field c.args.s.now c.args.bits (padding_for c.args.bits)
 
 pub returns-then-padding_of-gt0 : goal.returns-then-padding_of-gt0
@@ -20,16 +21,16 @@ returns-then-padding_of-gt0 c =
     let a = asked.args in
     c.padding_set.ensures
     ∙ ap padding_set (c.first_set.ensures ∙ ap (λ (b : ℕ). first_set a.s.now a.bits (8 * b - a.bits)) c.bytes_for-end.ensures)
-    ∙ below 0 (padding asked) _ (omega (arith, asked.padding_of.ensures))
+    ∙ below 0 (padding (goal.at.returns-then-padding_of-gt0 c).Start) _ (omega (arith, asked.padding_of.ensures))
 
 pub returns-then-room-bytes : goal.returns-then-room-bytes
 unfolding end_refusal
 returns-then-room-bytes c = let asked = c in
     let a = asked.args in
-    not_below 0 (padding asked) _ _ (omega (arith, asked.padding_of.ensures)) (last_below a.room a.bytes _ c.if-room-bytes.true)
+    not_below 0 (padding (goal.at.returns-then-room-bytes c).Start) _ _ (omega (arith, asked.padding_of.ensures)) (last_below a.room a.bytes _ c.if-room-bytes.true)
 
 pub returns : goal.returns
 unfolding end_refusal
 returns c = let asked = c in
     let a = asked.args in
-    not_below 0 (padding asked) _ _ (omega (arith, asked.padding_of.ensures)) (last_not_below a.room a.bytes _ c.if-room-bytes.false)
+    not_below 0 (padding (goal.at.returns c).Start) _ _ (omega (arith, asked.padding_of.ensures)) (last_not_below a.room a.bytes _ c.if-room-bytes.false)

@@ -10,6 +10,7 @@ use Rattle.modes.specs.declared.plain.Best.{Best}
 use Rattle.modes.specs.Plain.{weighed, passed}
 use Rattle.modes.proofs.Passing.{passed_over, passed-weighed, best_none, best-more, best-all}
 use Rattle.modes.proofs.plain.walk.Goals as goal
+use Rattle.modes.proofs.plain.walk.Goals.{then-counts, else-counts}
 
 pub loop-t-init : goal.loop-t-init
 loop-t-init c = let a = c.args in
@@ -26,15 +27,16 @@ loop-t-preserved c =
     let a = c.args in
     let asked = sym c.counts.ensures in
     let turn : c.if-counts.best ≡ passed a.mode a.flags.now l.best (transition_at l.t) =
-    ⊎_elim
-    (λ k.
-    k.5
-    ∙ k.4.ensures
-    ∙ ap (λ n. weighed l.best n k.3.result) k.2.ensures
-    ∙ ap (weighed l.best (get_or (get_or held.result l.t []) 0 0)) k.3.ensures
-    ∙ sym (passed-weighed held.result held.ensures l.t (omega arith) a.mode a.flags.now l.best (asked ∙ k.0.taken)))
-    (λ k. k.1 ∙ sym (passed_over held.result held.ensures l.t (omega arith) a.mode a.flags.now l.best (asked ∙ k.0.left)))
-    c.if-counts.branch in (
+    elim c.if-counts.branch [
+      | then-counts w ↦
+          w.best-is
+          ∙ w.weigh-best.ensures
+          ∙ ap (λ n. weighed l.best n w.number-then-counts.result) w.number.ensures
+          ∙ ap (weighed l.best (get_or (get_or held.result l.t []) 0 0)) w.number-then-counts.ensures
+          ∙ sym (passed-weighed held.result held.ensures l.t (omega arith) a.mode a.flags.now l.best (asked ∙ w.if-counts.true))
+      | else-counts w ↦
+          w.best-is ∙ sym (passed_over held.result held.ensures l.t (omega arith) a.mode a.flags.now l.best (asked ∙ w.if-counts.false))
+    ] in (
       omega arith,
       turn
           ∙ ap (λ (b : Best). passed a.mode a.flags.now b (transition_at l.t)) l.invariant.1
