@@ -1,4 +1,6 @@
 // What reading and writing gates share: the bits of a gate, and what is allowed in it. `distance` is the width of a gate's distance.
+#![tactic(auto)]
+
 pub mod forms;
 
 ghost use Rattle.std.specs.Prelude.{◌≡◌, ◌+◌, ◌*◌, ◌≤◌};

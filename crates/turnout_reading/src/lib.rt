@@ -1,5 +1,7 @@
 // Turnout sub-packets read: everything is judged first, and stored afterwards, so that a refusal changes nothing. A turnout's speed tells where the
 // turnout ends, so each walk goes from one to the next.
+#![tactic(auto)]
+
 ghost use Rattle.std.specs.Prelude.{◌≡◌, ◌+◌, ◌*◌, ◌≤◌, ◌<◌, ◌^◌, length};
 ghost use Rattle.std.proofs.lemmas.List.Edits.{sets};
 ghost use Rattle.numbers.specs.Fields.{field};

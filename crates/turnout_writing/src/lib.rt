@@ -1,4 +1,6 @@
 // Turnouts written as a sub-packet: everything is judged first, and written afterwards, so that a refusal changes nothing.
+#![tactic(auto)]
+
 ghost use Rattle.std.specs.Prelude.{◌≡◌, ◌+◌, ◌*◌, ◌≤◌, length, get_or, drop};
 ghost use Rattle.numbers.specs.Pieces.{total, pack};
 ghost use Rattle.profiles.specs.Profiles.{widths_for, widths_of};

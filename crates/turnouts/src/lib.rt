@@ -1,4 +1,6 @@
 // What reading and writing turnouts share: the bits of a turnout, and what is allowed in it.
+#![tactic(auto)]
+
 ghost use Rattle.std.specs.Prelude.{◌≡◌, ◌≤◌};
 ghost use Rattle.numbers.specs.Pieces.{total};
 ghost use Rattle.profiles.specs.Profiles.{count_of};

@@ -1,0 +1,11 @@
+-- `turnouts::last_distance` meets its contract.
+use Rattle.turnouts.specs.Turnouts.{last_distance}
+use Rattle.turnouts.proofs.last_distance.Goals as goal
+
+pub returns-then-is_restricted : goal.returns-then-is_restricted
+unfolding last_distance
+returns-then-is_restricted c = simp (← c.is_restricted.ensures, c.if-is_restricted.true)
+
+pub returns-else-is_restricted : goal.returns-else-is_restricted
+unfolding last_distance
+returns-else-is_restricted c = simp (← c.is_restricted.ensures, c.if-is_restricted.false)
