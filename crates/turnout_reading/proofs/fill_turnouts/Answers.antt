@@ -31,7 +31,7 @@ loop-i-preserved c = let made = c.fill_turnout in
     let bytes = made.ensures ∙ ap (sets l.out (turnout_bytes * l.i)) (turnout-digits s l.p speed.result distances.result speed.ensures.0 distances.ensures.0) in (
       omega arith,
       omega arith,
-      made.auto.1.1.0 ∙ l.invariant.2,
+      made.auto.out ∙ l.invariant.2,
       (λ j. sets (bytes j) (place j) (left s c.end_at-p.result (less j)))
           ∙ fill_more s l.p (a.n - l.i) c.end_at-p.result (omega arith) c.end_at-p.ensures.0 l.out (turnout_bytes * l.i)
           ∙ l.invariant.3,

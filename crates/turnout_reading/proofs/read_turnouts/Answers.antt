@@ -16,7 +16,10 @@ pub returns-then-refusal-ne-ACCEPTED : goal.returns-then-refusal-ne-ACCEPTED
 returns-then-refusal-ne-ACCEPTED c = let judged = c in
     let a = judged.args in
     let r = read-refused turnout_profile a.s.now a.out.now judged.read_refusal-refusal.result judged.read_refusal-refusal.ensures c.if-refusal-ne-ACCEPTED.true in
-    (c.refused.ensures ∙ r.0, r.1)
+    record {
+      value = c.refused.ensures ∙ r.0;
+      out_after = r.1;
+    }
 
 -- where nothing refuses, there is room
 taken : (c : Else-refusal-ne-ACCEPTED) → Accepted turnout_profile c.args.s.now (length c.args.out.now)
@@ -31,6 +34,10 @@ returns c = let filled = c in
     let counted = filled in
     let judged = counted in
     let a = judged.args in
-    read_stored turnout_profile a.s.now a.out.now judged.read_refusal-refusal.result judged.read_refusal-refusal.ensures regular counted.if-refusal-ne-ACCEPTED.false
+    let both = read_stored turnout_profile a.s.now a.out.now judged.read_refusal-refusal.result judged.read_refusal-refusal.ensures regular counted.if-refusal-ne-ACCEPTED.false
     counted.count_of-entries.result c.length_of.result filled.fill_turnouts.new.1.1.0 counted.count_of-entries.ensures.0 c.length_of.ensures.0
-    (filled.fill_turnouts.ensures ∙ ap (λ (n : ℕ). sets a.out.now 0 (first_entries turnout_profile a.s.now n)) counted.count_of-entries.ensures.0)
+    (filled.fill_turnouts.ensures ∙ ap (λ (n : ℕ). sets a.out.now 0 (first_entries turnout_profile a.s.now n)) counted.count_of-entries.ensures.0) in
+    record {
+      value = both.0;
+      out_after = both.1;
+    }

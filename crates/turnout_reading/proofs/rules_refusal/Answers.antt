@@ -6,7 +6,7 @@ use Rattle.profiles.proofs.ProfileLaws.{rules-none}
 use Rattle.turnouts.specs.Turnouts.{turnout_profile, is_allowed}
 use Rattle.turnout_reading.proofs.ReadingLaws.{rules-stop, rules_go}
 use borrow.Author.Rules.{rules}
-use Rattle.turnout_reading.proofs.rules_refusal.Invariants.{rules}
+use Rattle.turnout_reading.proofs.rules_refusal.Invariants.{the_rules}
 use Rattle.turnout_reading.proofs.rules_refusal.Goals as goal
 
 -- the rules on m turnouts from bit p on
@@ -14,7 +14,7 @@ use Rattle.turnout_reading.proofs.rules_refusal.Goals as goal
 pub loop-i-init : goal.loop-i-init
 loop-i-init c = let a = c.args in
     let e : a.n - 0 ≡ a.n = omega arith in
-    (omega arith, omega arith, ap (rules a.s.now 13) e)
+    (omega arith, omega arith, ap (the_rules a.s.now 13) e)
 
 pub returns-then-not-is_allowed : goal.returns-then-not-is_allowed
 returns-then-not-is_allowed c = let asked = c in
@@ -31,7 +31,7 @@ loop-i-preserved c = let asked = c in
     let less : a.n - (l.i + 1) ≡ a.n - l.i - 1 = omega arith in (
       omega arith,
       omega arith,
-      ap (rules a.s.now c.end_at-p.result) less
+      ap (the_rules a.s.now c.end_at-p.result) less
           ∙ rules_go a.s.now l.p (a.n - l.i) c.end_at-p.result (omega arith) c.end_at-p.ensures.0 right
           ∙ l.invariant.2,
     )
@@ -40,4 +40,4 @@ pub returns : goal.returns
 returns c = let l = c.loop-i in
     let a = c.args in
     let e : 0 ≡ a.n - l.i = omega arith in
-    sym (rules-none turnout_profile l.p _) ∙ ap (rules a.s.now l.p) e ∙ l.invariant.2
+    sym (rules-none turnout_profile l.p _) ∙ ap (the_rules a.s.now l.p) e ∙ l.invariant.2

@@ -6,14 +6,13 @@ use Rattle.numbers.specs.Pieces.{unpack}
 use Rattle.framing.specs.declared.refusals.Refusal.{Refusal}
 use Rattle.profiles.specs.Profiles.{widths_at, rules_refusal}
 use Rattle.turnouts.specs.Turnouts.{turnout_profile}
-use borrow.Author.Rules.{rules}
 use Rattle.turnout_reading.proofs.rules_refusal.Given as goal
 
-abbrev pub rules : List ℕ → ℕ → ℕ → Refusal
-rules s p m = rules_refusal turnout_profile p (unpack s p (widths_at turnout_profile s p m)) m
+abbrev pub the_rules : List ℕ → ℕ → ℕ → Refusal
+the_rules s p m = rules_refusal turnout_profile p (unpack s p (widths_at turnout_profile s p m)) m
 
 abbrev pub invariant-loop-i : goal.invariant-loop-i
-invariant-loop-i l = (l.i ≤ l.n) × (l.p ≤ 13 + 32 * l.i) × (rules l.s l.p (l.n - l.i) ≡ rules l.s 13 l.n)
+invariant-loop-i l = (l.i ≤ l.n) × (l.p ≤ 13 + 32 * l.i) × (the_rules l.s l.p (l.n - l.i) ≡ the_rules l.s 13 l.n)
 
 abbrev pub decreases-loop-i : goal.decreases-loop-i
 decreases-loop-i l = l.n - l.i

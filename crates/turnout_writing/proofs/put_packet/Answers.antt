@@ -29,12 +29,12 @@ returns c =
     let size : sized.result ≡ size_for turnout_profile list m = bytes ∙ ap (size_for turnout_profile list) n in
     let small : sized.result ≤ 14 = omega (arith, sized.ensures, bits.ensures.1) in
     let out-known : Bytes a.out.now = λ k. omega (arith, c.slice_known-1.given k) in
-    let cleared-known : Bytes last.new.0 = λ k. omega (arith, c.slice_known-2-1.given k) in (
-      bytes,
-      written-steps turnout_profile regular list a.out.now last.new.0 head.new.0 c.put_turnouts.new.0 out-known (omega (arith, start.requires))
+    let cleared-known : Bytes last.new.out = λ k. omega (arith, c.slice_known-2-1.given k) in record {
+      value = bytes;
+      out_after = written-steps turnout_profile regular list a.out.now last.new.out head.new.out c.put_turnouts.new.out out-known (omega (arith, start.requires))
           (last.ensures ∙ ap (λ (b : ℕ). put_number 1 a.out.now (b - 1) 0) size)
           (head.ensures
-          ∙ (λ i. put last.new.0 0 13 (2048 + size i * 4 + n i))
-          ∙ header_put_lem last.new.0 (size_for turnout_profile list m) m cleared-known (omega (arith, small, size)) (omega (arith, start.requires)))
-          (rw n at c.put_turnouts.ensures),
-    )
+          ∙ (λ i. put last.new.out 0 13 (2048 + size i * 4 + n i))
+          ∙ header_put_lem last.new.out (size_for turnout_profile list m) m cleared-known (omega (arith, small, size)) (omega (arith, start.requires)))
+          (rw n at c.put_turnouts.ensures);
+    }

@@ -25,9 +25,9 @@ returns c =
     let eb = behind.ensures.0 ∙ ap (λ (v : ℕ). total (behind_speed v)) ev in
     let far = c.half_at-distance.ensures ∙ pair_eq list known a.at 1 in
     let near = c.half_at-release.ensures ∙ pair_eq list known a.at 3 in
-    let width : min behind.result 32 ≡ total (behind_speed speed.result) = omega (arith, behind.ensures) in (
-      (omega (arith, eb), omega (arith, behind.ensures.1)),
-      c.write_field-2.ensures
+    let width : min behind.result 32 ≡ total (behind_speed speed.result) = omega (arith, behind.ensures) in record {
+      value = (omega (arith, eb), omega (arith, behind.ensures.1));
+      out_after = c.write_field-2.ensures
           ∙ (λ i. put (c.write_field.ensures i) (a.p + 5) (width i) (far i % 32768 * 4096 + near i % 4096))
-          ∙ turnout-put a.out.now a.p speed.result (drop a.at list) ev out-known (bytes list known a.at) (simp length-drop (omega (arith, start.requires))),
-    )
+          ∙ turnout-put a.out.now a.p speed.result (drop a.at list) ev out-known (bytes list known a.at) (simp length-drop (omega (arith, start.requires)));
+    }

@@ -30,9 +30,9 @@ loop-i-preserved c = let made = c.put_turnout-p in
     let less : a.n - (l.i + 1) ≡ a.n - l.i - 1 = omega arith in (
       omega arith,
       omega arith,
-      omega (arith, made.ensures.0.1),
-      made.auto.0 ∙ l.invariant.3,
-      (λ j. pack (made.ensures.1 j) (made.ensures.0.0 j) (widths_of turnout_profile left (less j)) left)
+      omega (arith, made.ensures.value.1),
+      made.auto.out ∙ l.invariant.3,
+      (λ j. pack (made.ensures.out_after j) (made.ensures.value.0 j) (widths_of turnout_profile left (less j)) left)
           ∙ entries_step turnout_profile regular l.out l.p a.list.now l.at (a.n - l.i) (get_or (drop l.at a.list.now) 0 0) refl (omega arith)
           ∙ l.invariant.4,
     )

@@ -11,7 +11,7 @@ use Rattle.turnout_writing.proofs.turnout_refusal.Goals as goal
 
 -- the speed that was read
 abbrev start : After-byte_at-speed → Start
-start c = c
+start c = (goal.at.After-byte_at-speed c).Start
 
 module _ (c : After-byte_at-speed) where
   abbrev list : List ℕ
@@ -21,10 +21,10 @@ module _ (c : After-byte_at-speed) where
   at = (start c).args.at
 
   abbrev known : (k : ℕ) → get_or list k 0 < 256
-  known k = omega (arith, c.before.shared-slice-known.given k)
+  known k = omega (arith, c.shared_slice_known-1.given k)
 
-  read : c.byte_at.result ≡ speed list known at
-  read = c.byte_at.ensures ∙ speed_eq list known at
+  read : c.byte_at-speed.result ≡ speed list known at
+  read = c.byte_at-speed.ensures ∙ speed_eq list known at
 
 pub returns-then-not-is_allowed : goal.returns-then-not-is_allowed
 returns-then-not-is_allowed c = let asked = c in

@@ -14,7 +14,7 @@ use Rattle.turnout_writing.proofs.write_refusal.Goals.{Else-refusal-ne-ACCEPTED,
 use Rattle.turnout_writing.proofs.write_refusal.Goals as goal
 
 abbrev start : Else-refusal-ne-ACCEPTED → Start
-start c = c
+start c = (goal.at.Else-refusal-ne-ACCEPTED c).Start
 
 -- past the turnouts: the room decides
 module _ (c : Else-refusal-ne-ACCEPTED) where
@@ -24,8 +24,8 @@ module _ (c : Else-refusal-ne-ACCEPTED) where
       (or_else (refuse (ltb most_turnouts (entries_in turnout_profile (start c).args.list.now)) too_many_entries)
       (or_else (list_refusal turnout_profile (start c).args.list.now (entries_in turnout_profile (start c).args.list.now)) rest))
   passed rest e =
-      not_below _ _ _ _ c.before.before.before.before.if1.false
-      (not_below _ _ _ _ c.before.before.before.if2.false (next _ _ (sym (same_number c.before.before.list-refusal.ensures) ∙ c.if3.false) e))
+      not_below _ _ _ _ c.if-list-gt0.false
+      (not_below _ _ _ _ c.if-n-gt-MOST_TURNOUTS.false (next _ _ (sym (same_number c.list_refusal-refusal.ensures) ∙ c.if-refusal-ne-ACCEPTED.false) e))
 
 pub returns-then-list-gt0 : goal.returns-then-list-gt0
 unfolding write_refusal

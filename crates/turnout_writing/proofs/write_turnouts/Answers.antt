@@ -15,7 +15,10 @@ pub returns-then-judged-ne-ACCEPTED : goal.returns-then-judged-ne-ACCEPTED
 returns-then-judged-ne-ACCEPTED c = let a = c.args in
     let judged = c.write_refusal-judged in
     let r = write_refused turnout_profile most_turnouts a.list.now a.out.now judged.result judged.ensures c.if-judged-ne-ACCEPTED.true in
-    (c.not_written.ensures ∙ r.0, r.1)
+    record {
+      value = c.not_written.ensures ∙ r.0;
+      out_after = r.1;
+    }
 
 pub put_packet-bytes-requires : goal.put_packet-bytes-requires
 put_packet-bytes-requires c = let g = taken (goal.at.put_packet-bytes-requires c).Else-judged-ne-ACCEPTED in
@@ -25,4 +28,8 @@ pub returns : goal.returns
 returns c = let judged = c.write_refusal-judged in
     let a = c.args in
     let made = c.put_packet-bytes in
-    write_accepted turnout_profile most_turnouts a.list.now a.out.now judged.result judged.ensures c.if-judged-ne-ACCEPTED.false made.result made.new.0 made.ensures.0 made.ensures.1
+    let both = write_accepted turnout_profile most_turnouts a.list.now a.out.now judged.result judged.ensures c.if-judged-ne-ACCEPTED.false made.result made.new.out made.ensures.value made.ensures.out_after in
+    record {
+      value = both.0;
+      out_after = both.1;
+    }

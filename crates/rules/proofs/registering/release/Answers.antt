@@ -1,5 +1,6 @@
 -- `rules::registering::release` meets its contract.
 use mathlib.Core.Path.{◌∙◌}
+use Rattle.rules.specs.{Named.name_ground, Registering.released}
 use Rattle.rules.proofs.ChainLaws.{ruled_by_name}
 use Rattle.rules.proofs.registering.release.Goals as goal
 

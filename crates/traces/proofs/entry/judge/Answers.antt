@@ -4,7 +4,7 @@ use mathlib.Core.Bool.{true, false}
 use mathlib.Core.List.{List}
 use Prim.Native.Nat.{ℕ}
 use native.Mathlib.Omega.{arith}
-use borrow.Author.Tests.{not-false, eq-eqb, ne_eqb}
+use borrow.Author.Tests.{eq-eqb, ne_eqb}
 use Rattle.modes.specs.Next.{next_step}
 use Rattle.modes.specs.declared.Step.{Step}
 use Rattle.traces.specs.Entry.{flags_of, mode_before, mode_after, due_mode, is_entry, is_out_of_range, wrong_at, after, judged}
@@ -24,16 +24,16 @@ slice_bounds-next_mode-end c =
 -- an entry that is whole, and its step
 module _ (c : After-next_mode-step) where
   abbrev e : List ℕ
-  e = c.before.before.before.before.before.before.args.entry.now
+  e = c.args.entry.now
 
   whole : is_entry e ≡ true
-  whole = sym c.before.before.before.before.is-entry.ensures ∙ not-false _ c.before.before.before.if1.false
+  whole = sym c.is_entry.ensures ∙ c.if-not-is_entry.false
 
-  step : c.next-mode.result ≡ next_step (mode_before e) (flags_of e)
+  step : c.next_mode-step.result ≡ next_step (mode_before e) (flags_of e)
   unfolding flags_of
-  step = c.next-mode.ensures ∙ ap (λ (m : ℕ). next_step m (flags_of e)) c.before.before.mode-before.ensures
+  step = c.next_mode-step.ensures ∙ ap (λ (m : ℕ). next_step m (flags_of e)) c.mode_before.ensures
 
-  due : c.next-mode.result.mode ≡ due_mode e
+  due : c.next_mode-step.result.mode ≡ due_mode e
   unfolding due_mode
   due = ap (λ (s : Step). s.mode) step
 
@@ -45,11 +45,11 @@ returns-then-is_out_of_range c =
 
 -- and in range
 module _ (c : After-does_follow) where
-  abbrev stepped : tie.After-next-mode
-  stepped = c.before.before.before
+  abbrev stepped : After-next_mode-step
+  stepped = (goal.at.After-does_follow c).After-next_mode-step
 
-  inside : is_out_of_range stepped.before.before.before.before.before.before.args.previous (e stepped) ≡ false
-  inside = sym c.before.before.is-out-of-range.ensures ∙ c.before.if2.false
+  inside : is_out_of_range stepped.args.previous (e stepped) ≡ false
+  inside = sym c.is_out_of_range.ensures ∙ c.if-is_out_of_range.false
 
 pub returns-then-not-does_follow : goal.returns-then-not-does_follow
 unfolding judged

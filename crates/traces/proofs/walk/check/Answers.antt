@@ -9,7 +9,7 @@ use lib.Seq.{take_all}
 use Rattle.traces.specs.Entry.{entry_bytes, mode_after, is_right, judged}
 use Rattle.traces.specs.Trace.{told_at}
 use Rattle.traces.proofs.TraceLaws.{Reached, reached_first, reached_told, reached_next, reached_end}
-use Rattle.traces.proofs.walk.check.Goals.{After-is_right}
+use Rattle.traces.proofs.walk.check.Goals.{After-is_right, At-loop-at}
 use Rattle.traces.proofs.walk.check.Goals as goal
 
 pub loop-at-init : goal.loop-at-init
@@ -17,30 +17,30 @@ loop-at-init c = reached_first c.args.trace.now
 
 -- an entry that was judged
 module _ (c : After-is_right) where
-  abbrev looped : tie.At-loop invariant-loop decreases-loop
-  looped = c.before.before.before.before
+  abbrev looped : At-loop-at
+  looped = (goal.at.After-is_right c).At-loop-at
 
   abbrev trace : List ℕ
-  trace = looped.before.before.args.trace.now
+  trace = looped.args.trace.now
 
   abbrev left : List ℕ
-  left = drop looped.loop.at trace
+  left = drop looped.loop-at.at trace
 
-  inside : looped.loop.at < length trace
-  inside = c.before.before.before.loop-test.true
+  inside : looped.loop-at.at < length trace
+  inside = c.loop-at-test.true
 
   -- the part that is lent is all that is left
-  all_left : take (length trace - looped.loop.at) left ≡ left
-  all_left = take_all (length trace - looped.loop.at) left (omega (arith, length-drop looped.loop.at trace))
+  all_left : take (length trace - looped.loop-at.at) left ≡ left
+  all_left = take_all (length trace - looped.loop-at.at) left (omega (arith, length-drop looped.loop-at.at trace))
 
-  judged-is : c.before.judge.result ≡ judged looped.loop.previous left
-  judged-is = c.before.judge.ensures ∙ ap (judged looped.loop.previous) all_left
+  judged-is : c.judge-judged.result ≡ judged looped.loop-at.previous left
+  judged-is = c.judge-judged.ensures ∙ ap (judged looped.loop-at.previous) all_left
 
-  is_right_lem : c.is_right.result ≡ is_right (judged looped.loop.previous left)
+  is_right_lem : c.is_right.result ≡ is_right (judged looped.loop-at.previous left)
   is_right_lem = c.is_right.ensures ∙ ap is_right judged-is
 
-  next : c.is_right.result ≡ true → Reached trace (looped.loop.at + entry_bytes) (looped.loop.number + 1) (mode_after left)
-  next e = reached_next looped.loop.inv inside (sym is_right_lem ∙ e)
+  next : c.is_right.result ≡ true → Reached trace (looped.loop-at.at + entry_bytes) (looped.loop-at.number + 1) (mode_after left)
+  next e = reached_next looped.loop-at.invariant inside (sym is_right_lem ∙ e)
 
 pub returns-then-not-is_right : goal.returns-then-not-is_right
 returns-then-not-is_right c =
@@ -50,7 +50,7 @@ returns-then-not-is_right c =
     ∙ reached_told (looped (goal.at.returns-then-not-is_right c).After-is_right).loop-at.invariant (inside (goal.at.returns-then-not-is_right c).After-is_right) (sym (is_right_lem (goal.at.returns-then-not-is_right c).After-is_right) ∙ c.if-not-is_right.true)
 
 pub overflow_add-number : goal.overflow_add-number
-overflow_add-number c = omega (arith, inside (goal.at.overflow_add-number c).After-is_right, (looped (goal.at.overflow_add-number c).After-is_right).loop-at.inv.few)
+overflow_add-number c = omega (arith, inside (goal.at.overflow_add-number c).After-is_right, (looped (goal.at.overflow_add-number c).After-is_right).loop-at.invariant.few)
 
 pub overflow_add-at : goal.overflow_add-at
 overflow_add-at c = omega (arith, (next (goal.at.overflow_add-at c).After-is_right (c.if-not-is_right.false)).inside)
