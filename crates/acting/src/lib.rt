@@ -1,4 +1,6 @@
 // What each deed does to the train that is named. A deed takes the train and gives the answer and the train afterwards; it never sees a row.
+#![tactic(auto)]
+
 ghost use Rattle.std.specs.Prelude.{◌≡◌};
 ghost use Rattle.rules.specs.Deeds.{meant, end_answer, changed_if, mode_stepped, done, deed_ground, deed_done, end_asked};
 ghost use Rattle.rules.specs.Ruling.{ruled};

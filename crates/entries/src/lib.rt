@@ -1,5 +1,7 @@
 // An entry of the log by itself: what undoes an effect, kept in the bytes from one on, and undone. It is a run of slots with the mark that they
 // had, and one row or two as they were. All offsets are store's. Here is what keeping and undoing share.
+#![tactic(auto)]
+
 pub mod kept;
 pub mod marks;
 pub mod undone;

@@ -1,5 +1,7 @@
 // Gate sub-packets read: everything is judged first, and stored afterwards, so that a refusal changes nothing. In between each gate is kept as the
 // one number that its bits are, so that it is loaded once. `distance` is the width of a gate's distance.
+#![tactic(auto)]
+
 ghost use Rattle.std.specs.Prelude.{◌≡◌, [], ◌∷◌, ◌+◌, ◌*◌, ◌≤◌, ◌<◌, length, get_or};
 ghost use Rattle.std.proofs.lemmas.List.Edits.{sets};
 ghost use Rattle.std.proofs.Math.Seq.{slice};

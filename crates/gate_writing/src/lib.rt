@@ -1,5 +1,7 @@
 // Gates written as a sub-packet: everything is judged first, and written afterwards, so that a refusal changes nothing. `distance` is the
 // width of a gate's distance.
+#![tactic(auto)]
+
 ghost use Rattle.std.specs.Prelude.{◌≡◌, ◌+◌, ◌*◌, ◌≤◌, length, get_or, drop};
 ghost use Rattle.numbers.specs.Pieces.{pack};
 ghost use Rattle.profiles.specs.Profiles.{bytes_for, widths_of};

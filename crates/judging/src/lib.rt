@@ -1,4 +1,6 @@
 // The rules asked of the lent bytes of a session, which are only read: each operation judged.
+#![tactic(auto)]
+
 mod named;
 mod slots;
 

@@ -1,5 +1,7 @@
 // What moves a session: an effect taken into its bytes, with the entry that undoes it kept in the log's ring, and entries undone. Here is what
 // both share: the ring's notches and the header.
+#![tactic(auto)]
+
 pub mod back;
 pub mod settled;
 

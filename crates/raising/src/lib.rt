@@ -1,4 +1,6 @@
 // SOS between L1 and L2: each train's order by the cell of the grid, under the other train's ticket. All is judged before anything is changed.
+#![tactic(auto)]
+
 ghost use Rattle.std.specs.Prelude.{cond, ◌&&◌, ◌≡◌, eqb};
 ghost use Rattle.rules.specs.Raising.{share_ground, share_taken, side_of, side_ground, sos_ground, raised};
 ghost use Rattle.rules.specs.Ruling.{ruled};

@@ -1,4 +1,6 @@
 // The settings that every session has: document 01's margin, and the bytes that it gives for a slot.
+#![tactic(auto)]
+
 ghost use Rattle.std.specs.Prelude.{◌≡◌};
 ghost use Rattle.settings.specs.Usual.{usual};
 

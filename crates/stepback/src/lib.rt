@@ -1,4 +1,6 @@
 // STEP-BACK on a lent session: k is judged against the entries kept, and the latest k are undone.
+#![tactic(auto)]
+
 ghost use Rattle.std.specs.Prelude.{◌≡◌};
 ghost use Rattle.stepback.specs.Back.{back_answer, back_after};
 

@@ -35,7 +35,7 @@ returns c = let filled = c in
     let judged = counted in
     let a = judged.args in
     let both = read_stored turnout_profile a.s.now a.out.now judged.read_refusal-refusal.result judged.read_refusal-refusal.ensures regular counted.if-refusal-ne-ACCEPTED.false
-    counted.count_of-entries.result c.length_of.result filled.fill_turnouts.new.1.1.0 counted.count_of-entries.ensures.0 c.length_of.ensures.0
+    counted.count_of-entries.result c.length_of.result filled.fill_turnouts.new.out counted.count_of-entries.ensures.0 c.length_of.ensures.0
     (filled.fill_turnouts.ensures ∙ ap (λ (n : ℕ). sets a.out.now 0 (first_entries turnout_profile a.s.now n)) counted.count_of-entries.ensures.0) in
     record {
       value = both.0;
