@@ -25,9 +25,9 @@ loop-i-preserved c = let l = c.loop-i in
     let less : a.n - (l.i + 1) ≡ a.n - l.i - 1 = omega arith in (
       omega arith,
       omega arith,
-      length-set l.auto l.i c.gate_at.result ∙ l.invariant.2,
-      (λ j. sets (set l.auto l.i (c.gate_at.ensures j)) (l.i + 1) (unpack a.s.now (l.p + c.gate_bits-p.ensures j) (times (less j) (gate_bits a.distance ∷ []))))
-          ∙ load_more a.s.now l.p (gate_bits a.distance) (a.n - l.i) l.auto l.i (omega arith)
+      length-set l.kept l.i c.gate_at.result ∙ l.invariant.2,
+      (λ j. sets (set l.kept l.i (c.gate_at.ensures j)) (l.i + 1) (unpack a.s.now (l.p + c.gate_bits-p.ensures j) (times (less j) (gate_bits a.distance ∷ []))))
+          ∙ load_more a.s.now l.p (gate_bits a.distance) (a.n - l.i) l.kept l.i (omega arith)
           ∙ l.invariant.3,
     )
 
@@ -36,7 +36,7 @@ unfolding times
 returns c = let l = c.loop-i in
     let a = c.args in
     let e : 0 ≡ a.n - l.i = omega arith in
-    ap (sets l.auto l.i) (sym (unpack-nil a.s.now l.p) ∙ ap (left a.distance a.s.now l.p) e) ∙ l.invariant.3
+    ap (sets l.kept l.i) (sym (unpack-nil a.s.now l.p) ∙ ap (left a.distance a.s.now l.p) e) ∙ l.invariant.3
 
 pub shape_of-kept : goal.shape_of-kept
 shape_of-kept c = c.loop-i.invariant.2

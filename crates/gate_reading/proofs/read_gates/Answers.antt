@@ -42,7 +42,7 @@ module _ (c : After-take_gates-refusal) where
       ≡ or_else (rules_refusal gate_profile 16 (entries_of gate_profile s) (count_of gate_profile s)) (end_refusal s (bits_of gate_profile s) (gate_bytes * count_of gate_profile s) (length o))
   taken_eq = c.take_gates-refusal.ensures.value ∙ gates_refusal distance_width s (omega arith) n counted (length o)
 
-  stored_eq : c.take_gates-refusal.new.out.1.1.0 ≡ unless_refused c.take_gates-refusal.result.number (sets o 0 (entries_of gate_profile s)) o
+  stored_eq : c.take_gates-refusal.new.out ≡ unless_refused c.take_gates-refusal.result.number (sets o 0 (entries_of gate_profile s)) o
   stored_eq =
       c.take_gates-refusal.ensures.out_after
       ∙ ap (λ (l : List ℕ). unless_refused c.take_gates-refusal.result.number (sets o 0 l) o) (gates_entries distance_width s (omega arith) n counted)
@@ -60,7 +60,7 @@ pub returns-then-refusal-ne-ACCEPTED : goal.returns-then-refusal-ne-ACCEPTED
 returns-then-refusal-ne-ACCEPTED c = let taken = c in
     let shape = taken in
     let a = shape.args in
-    let r = entries_refused gate_profile a.s.now a.out.now shape.shape_refusal-shape.result (shape_eq (goal.at.returns-then-refusal-ne-ACCEPTED c).After-shape_refusal-shape) taken.if-shape-ne-ACCEPTED.false taken.take_gates-refusal.result taken.take_gates-refusal.new.out.1.1.0 (taken_eq (goal.at.returns-then-refusal-ne-ACCEPTED c).After-take_gates-refusal) (stored_eq (goal.at.returns-then-refusal-ne-ACCEPTED c).After-take_gates-refusal) c.if-refusal-ne-ACCEPTED.true in
+    let r = entries_refused gate_profile a.s.now a.out.now shape.shape_refusal-shape.result (shape_eq (goal.at.returns-then-refusal-ne-ACCEPTED c).After-shape_refusal-shape) taken.if-shape-ne-ACCEPTED.false taken.take_gates-refusal.result taken.take_gates-refusal.new.out (taken_eq (goal.at.returns-then-refusal-ne-ACCEPTED c).After-take_gates-refusal) (stored_eq (goal.at.returns-then-refusal-ne-ACCEPTED c).After-take_gates-refusal) c.if-refusal-ne-ACCEPTED.true in
     record {
       value = c.refused-then-refusal-ne-ACCEPTED.ensures ∙ r.0;
       out_after = r.1;
@@ -71,7 +71,7 @@ returns c = let taken = c in
     let shape = taken in
     let a = shape.args in
     let counted = shape.count_of-count in
-    let both = read-accepted gate_profile a.s.now a.out.now shape.shape_refusal-shape.result (shape_eq (goal.at.returns c).After-shape_refusal-shape) taken.if-shape-ne-ACCEPTED.false taken.take_gates-refusal.result taken.take_gates-refusal.new.out.1.1.0 (taken_eq (goal.at.returns c).After-take_gates-refusal) (stored_eq (goal.at.returns c).After-take_gates-refusal) (regular distance_width (omega arith)) c.if-refusal-ne-ACCEPTED.false counted.result c.length_of.result counted.ensures.0 c.length_of.ensures.0 in
+    let both = read-accepted gate_profile a.s.now a.out.now shape.shape_refusal-shape.result (shape_eq (goal.at.returns c).After-shape_refusal-shape) taken.if-shape-ne-ACCEPTED.false taken.take_gates-refusal.result taken.take_gates-refusal.new.out (taken_eq (goal.at.returns c).After-take_gates-refusal) (stored_eq (goal.at.returns c).After-take_gates-refusal) (regular distance_width (omega arith)) c.if-refusal-ne-ACCEPTED.false counted.result c.length_of.result counted.ensures.0 c.length_of.ensures.0 in
     record {
       value = both.0;
       out_after = both.1;

@@ -22,28 +22,28 @@ abbrev all : Start → List ℕ
 all c = first_gates c.args.distance c.args.s.now c.args.n
 
 -- are those that were kept
-bytes_eq : (c : After-load_gates) → spread (slice 0 c.args.n c.load_gates.new.kept.1.1.0) ≡ all c
+bytes_eq : (c : After-load_gates) → spread (slice 0 c.args.n c.load_gates.new.kept) ≡ all (goal.at.After-load_gates c).Start
 bytes_eq c = let a = c.args in
     ap (λ (l : List ℕ). spread (slice 0 a.n l)) c.load_gates.ensures
     ∙ kept_gates_lem a.distance a.s.now a.n _ (omega arith) (omega arith) (omega arith)
 
-rules_eq : (c : After-rules_refusal-rules) → c.rules_refusal-rules.result ≡ rules_refusal (gate_profile_with c.args.distance) 16 (all c) c.args.n
+rules_eq : (c : After-rules_refusal-rules) → c.rules_refusal-rules.result ≡ rules_refusal (gate_profile_with c.args.distance) 16 (all (goal.at.After-rules_refusal-rules c).Start) c.args.n
 rules_eq c = let a = c.args in
     c.rules_refusal-rules.ensures ∙ ap (λ (l : List ℕ). rules_refusal (gate_profile_with a.distance) 16 l a.n) (bytes_eq (goal.at.After-rules_refusal-rules c).After-load_gates)
 
 -- where the rules refuse nothing, and nothing refuses behind the gates
-rules-none : (c : Else-rules-ne-ACCEPTED) → (rules_refusal (gate_profile_with c.args.distance) 16 (all c) c.args.n).number ≡ 0
+rules-none : (c : Else-rules-ne-ACCEPTED) → (rules_refusal (gate_profile_with c.args.distance) 16 (all (goal.at.Else-rules-ne-ACCEPTED c).Start) c.args.n).number ≡ 0
 rules-none c = sym (same_number (rules_eq (goal.at.Else-rules-ne-ACCEPTED c).After-rules_refusal-rules)) ∙ c.if-rules-ne-ACCEPTED.false
 
 -- the refusal behind the gates
 abbrev end_of : Start → Refusal
 end_of c = end_refusal c.args.s.now (bits_with c.args.distance c.args.n) (gate_bytes * c.args.n) (length c.args.out.now)
 
-end_eq : (c : After-end_refusal-end) → c.end_refusal-end.result ≡ end_of c
+end_eq : (c : After-end_refusal-end) → c.end_refusal-end.result ≡ end_of (goal.at.After-end_refusal-end c).Start
 end_eq c = let a = c.args in
     c.end_refusal-end.ensures ∙ ap (λ (bits : ℕ). end_refusal a.s.now bits (gate_bytes * a.n) (length a.out.now)) c.bits_of-bits.ensures.0
 
-end_none : (c : Else-end-ne-ACCEPTED) → (end_of c).number ≡ 0
+end_none : (c : Else-end-ne-ACCEPTED) → (end_of (goal.at.Else-end-ne-ACCEPTED c).Start).number ≡ 0
 end_none c = sym (same_number (end_eq (goal.at.Else-end-ne-ACCEPTED c).After-end_refusal-end)) ∙ c.if-end-ne-ACCEPTED.false
 
 pub returns-then-n-eq0 : goal.returns-then-n-eq0

@@ -1,6 +1,6 @@
 -- `judging::request` meets its contract: at each way out the checks before it are passed.
 use mathlib.Core.Path.{◌≡◌, refl, sym, ap, ◌∙◌}
-use mathlib.Core.Bool.{true, false}
+use mathlib.Core.Bool.{true, false, not}
 use mathlib.Core.List.{List}
 use Prim.Native.Nat.{ℕ, suc}
 use native.Mathlib.Numerals.{add-one}
@@ -46,22 +46,22 @@ past c next =
     let asked = c in
     let named = asked in
     goes_on_lem _ _ _ (sym (c.is_there.ensures ∙ ap is_found c.find_loco.ensures) ∙ c.if-is_there.false)
-    ∙ goes_on-unless _ _ _ _ asked.is_request.ensures asked.if-not-is_request.false
-    ∙ goes_on-unless _ _ _ _ named.in_range.ensures named.if-not-in_range.false
+    ∙ goes_on-unless _ _ _ _ asked.is_request.ensures (ap not asked.if-not-is_request.false)
+    ∙ goes_on-unless _ _ _ _ named.in_range.ensures (ap not named.if-not-in_range.false)
 
 pub returns-then-not-in_range : goal.returns-then-not-in_range
 unfolding request_ground
 returns-then-not-in_range c =
     refusing _ _ _ _ _ _ _ c.refused.ensures c.counter-counter.ensures
-    (stops-unless _ _ _ _ c.in_range.ensures c.if-not-in_range.true)
+    (stops-unless _ _ _ _ c.in_range.ensures (ap not c.if-not-in_range.true))
 
 pub returns-then-not-is_request : goal.returns-then-not-is_request
 unfolding request_ground
 returns-then-not-is_request c =
     let named = c in
     refusing _ _ _ _ _ _ _ c.refused-then-not-is_request.ensures named.counter-counter.ensures
-    (stops-unless _ _ _ _ c.is_request.ensures c.if-not-is_request.true
-    ∙ goes_on-unless _ _ _ _ named.in_range.ensures named.if-not-in_range.false)
+    (stops-unless _ _ _ _ c.is_request.ensures (ap not c.if-not-is_request.true)
+    ∙ goes_on-unless _ _ _ _ named.in_range.ensures (ap not named.if-not-in_range.false))
 
 pub returns-then-is_there : goal.returns-then-is_there
 unfolding request_ground
@@ -70,8 +70,8 @@ returns-then-is_there c =
     let named = asked in
     refusing _ _ _ _ _ _ _ c.refused-then-is_there.ensures named.counter-counter.ensures
     (stops _ _ _ (sym (c.is_there.ensures ∙ ap is_found c.find_loco.ensures) ∙ c.if-is_there.true)
-    ∙ goes_on-unless _ _ _ _ asked.is_request.ensures asked.if-not-is_request.false
-    ∙ goes_on-unless _ _ _ _ named.in_range.ensures named.if-not-in_range.false)
+    ∙ goes_on-unless _ _ _ _ asked.is_request.ensures (ap not asked.if-not-is_request.false)
+    ∙ goes_on-unless _ _ _ _ named.in_range.ensures (ap not named.if-not-in_range.false))
 
 pub returns-in_default : goal.returns-in_default
 unfolding request_ground is_found
@@ -87,7 +87,7 @@ returns-then-not-is_above c =
     let known = found in
     let counter = known.counter-counter.ensures in
     refusing _ _ _ _ _ _ _ c.refused-then-not-is_above.ensures counter
-    (stops-unless _ _ _ _ (c.is_above.ensures ∙ ap (is_above (ticket_of last_ticket)) counter) c.if-not-is_above.true
+    (stops-unless _ _ _ _ (c.is_above.ensures ∙ ap (is_above (ticket_of last_ticket)) counter) (ap not c.if-not-is_above.true)
     ∙ goes_on-unless true _ _ _ (ap is_found (sym c.in-Index.is ∙ found.find_empty.ensures)) refl
     ∙ past (goal.at.returns-then-not-is_above c).Else-is_there _)
 
@@ -102,7 +102,7 @@ returns-in-NoRun c =
     ∙ ap (lowest_run (book_of counter.args.s.now)) c.slots_for-wanted.ensures in
     refusing _ _ _ _ _ _ _ c.refused-in-NoRun.ensures counter.counter-counter.ensures
     (stops-unless false _ _ _ (ap is_run_found run) refl
-    ∙ goes_on-unless _ _ _ _ (free.is_above.ensures ∙ ap (is_above (ticket_of last_ticket)) counter.counter-counter.ensures) free.if-not-is_above.false
+    ∙ goes_on-unless _ _ _ _ (free.is_above.ensures ∙ ap (is_above (ticket_of last_ticket)) counter.counter-counter.ensures) (ap not free.if-not-is_above.false)
     ∙ goes_on-unless true _ _ _ (ap is_found (sym row.in-Index.is ∙ row.find_empty.ensures)) refl
     ∙ past (goal.at.returns-in-NoRun c).Else-is_there _)
 
@@ -121,7 +121,7 @@ returns-in-From c =
     (c.grant.ensures
     ∙ (λ i. granted a.loco (wanted i) ((ap ticket_of (add-one _) ∙ ap ticket_for counter.counter-counter.ensures) i) (row_of_found (place i)) (start_of (run i))))
     (goes_on-unless true _ _ _ (ap is_run_found run) refl
-    ∙ goes_on-unless _ _ _ _ (free.is_above.ensures ∙ ap (is_above (ticket_of last_ticket)) counter.counter-counter.ensures) free.if-not-is_above.false
+    ∙ goes_on-unless _ _ _ _ (free.is_above.ensures ∙ ap (is_above (ticket_of last_ticket)) counter.counter-counter.ensures) (ap not free.if-not-is_above.false)
     ∙ goes_on-unless true _ _ _ (ap is_found place) refl
     ∙ past (goal.at.returns-in-From c).Else-is_there _)
 

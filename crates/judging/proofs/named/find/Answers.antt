@@ -15,6 +15,5 @@ pub returns : goal.returns
 unfolding named_in in_row
 returns c =
     let a = c.args in
-    let found = c.row.given in
-    (λ i. record { loco = a.loco; live = true; row = found.0.0; train = c.train-train.ensures i })
-    ∙ ap (in_row a.loco (view_of a.s.now)) (sym found.1 ∙ c.find.ensures)
+    (λ i. record { loco = a.loco; live = true; row = c.in-Index.row; train = c.train-train.ensures i })
+    ∙ ap (in_row a.loco (view_of a.s.now)) (sym c.in-Index.is ∙ c.find.ensures)
