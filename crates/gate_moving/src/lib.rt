@@ -1,5 +1,7 @@
 // Gates moved from one form of sub-packet to the other: they are read, their distances are said in the other form, and they are written. Everything
 // is judged first, so that a refusal changes nothing. In between each gate is kept as the number that its bits are. `from` is the form that is read.
+#![tactic(auto)]
+
 mod distances;
 
 ghost use Rattle.std.specs.Prelude.{◌≡◌, ◌≤◌, length};

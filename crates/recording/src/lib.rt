@@ -1,2 +1,4 @@
 // Recordings: one record judged and run on a lent session.
+#![tactic(auto)]
+
 pub mod running;

@@ -1,5 +1,7 @@
 // The turns of a listing: its first line, a line for each record that was run, its last line. Each is put at an offset of a lent output, where
 // it fits.
+#![tactic(auto)]
+
 ghost use Rattle.std.specs.Prelude.{◌≡◌, ◌≤◌, length};
 ghost use Rattle.lines.specs.Line.{room, IsLineOf};
 ghost use Rattle.lines.specs.Text.{run_line, end_line};

@@ -1,0 +1,43 @@
+-- `gate_moving::distances::distance_refusal` meets its contract: the two tests, one after the other.
+use Prim.Native.Nat.{ℕ, ◌%◌}
+use mathlib.Core.Path.{◌≡◌, ap, ◌∙◌}
+use native.Mathlib.Omega.{arith}
+use Rattle.framing.proofs.RefusalLaws.{below, not_below, last_below, last_not_below}
+use Rattle.gates.specs.Forms.{layout_of}
+use Rattle.gates.specs.declared.forms.Layout.{Layout}
+use Rattle.gates.proofs.GateLaws.{form_unit}
+use Rattle.gate_moving.specs.Moving.{distance_refusal}
+use Rattle.gate_moving.proofs.distances.distance_refusal.Goals.{After-layout-layout}
+use Rattle.gate_moving.proofs.distances.distance_refusal.Goals as goal
+
+unit : (c : After-layout-layout) → c.layout-layout.result.unit ≡ (layout_of c.args.to).unit
+unit c = ap (λ (l : Layout). l.unit) c.layout-layout.ensures
+
+farthest : (c : After-layout-layout) → c.layout-layout.result.farthest ≡ (layout_of c.args.to).farthest
+farthest c = ap (λ (l : Layout). l.farthest) c.layout-layout.ensures
+
+rest_eq : (c : After-layout-layout) → c.args.metres % c.layout-layout.result.unit ≡ c.args.metres % (layout_of c.args.to).unit
+rest_eq c = ap (λ (u : ℕ). c.args.metres % u) (unit c)
+
+pub returns-then-metres-layout-gt0 : goal.returns-then-metres-layout-gt0
+unfolding distance_refusal
+returns-then-metres-layout-gt0 c = let known = c in
+    c.distance_stuck.ensures ∙ below 0 (known.args.metres % (layout_of known.args.to).unit) _ (omega (arith, c.if-metres-layout-gt0.true, rest_eq (goal.at.returns-then-metres-layout-gt0 c).After-layout-layout))
+
+pub returns-then-layout-metres : goal.returns-then-layout-metres
+unfolding distance_refusal
+returns-then-layout-metres c = let first = c in
+    let known = first in
+    c.distance_stuck-then-layout-metres.ensures
+    ∙ not_below 0 (known.args.metres % (layout_of known.args.to).unit) _ _ (omega (arith, first.if-metres-layout-gt0.false, rest_eq (goal.at.returns-then-layout-metres c).After-layout-layout))
+    (last_below (layout_of known.args.to).farthest known.args.metres _ (omega (arith, c.if-layout-metres.true, farthest (goal.at.returns-then-layout-metres c).After-layout-layout)))
+
+pub returns : goal.returns
+unfolding distance_refusal
+returns c = let first = c in
+    let known = first in
+    not_below 0 (known.args.metres % (layout_of known.args.to).unit) _ _ (omega (arith, first.if-metres-layout-gt0.false, rest_eq (goal.at.returns c).After-layout-layout))
+    (last_not_below (layout_of known.args.to).farthest known.args.metres _ (omega (arith, c.if-layout-metres.false, farthest (goal.at.returns c).After-layout-layout)))
+
+pub nonzero_rem-metres : goal.nonzero_rem-metres
+nonzero_rem-metres c = omega (arith, unit (goal.at.nonzero_rem-metres c).After-layout-layout, (form_unit c.args.to).0)

@@ -1,0 +1,27 @@
+-- `session::operations::start` meets its contract.
+use mathlib.Core.Path.{sym, ◌∙◌}
+use mathlib.Core.Bool.{cond}
+use Rattle.store.specs.Emptied.{emptied}
+use Rattle.session.specs.Answers.{start_answer, start_after}
+use Rattle.stepback.proofs.BackLaws.{of-session, of_none}
+use Rattle.session.proofs.operations.start.Goals as goal
+
+pub returns-then-not-is_session : goal.returns-then-not-is_session
+unfolding start_answer start_after
+returns-then-not-is_session c =
+    let bs = c.args.session.now in
+    let none = sym c.is_session.ensures ∙ c.if-not-is_session.true in
+    record {
+      value = c.refused.ensures ∙ sym (of_none _ _ none);
+      session_after = sym (λ i. cond (none i) (emptied bs) bs);
+    }
+
+pub returns : goal.returns
+unfolding start_answer start_after
+returns c =
+    let bs = c.args.session.now in
+    let whole = sym c.is_session.ensures ∙ c.if-not-is_session.false in
+    record {
+      value = c.accepted.ensures ∙ sym (of-session _ _ whole);
+      session_after = c.clear.ensures ∙ sym (λ i. cond (whole i) (emptied bs) bs);
+    }
