@@ -25,8 +25,8 @@ fn end_answer(end: Location) -> Answer
 }
 
 // Where the test holds, the train afterwards; else refused on a ground, and the train as it was.
-fn given(test: bool, ground: u32, before: Train, after: Train) -> Changed
-    ensures { result ≡ changed_if test ground before after }
+fn given(test: bool, reason: u32, before: Train, after: Train) -> Changed
+    ensures { result ≡ changed_if test reason before after }
 {
     if test {
         Changed {
@@ -35,7 +35,7 @@ fn given(test: bool, ground: u32, before: Train, after: Train) -> Changed
         }
     } else {
         Changed {
-            answer: Answer::refused(ground),
+            answer: Answer::refused(reason),
             train: before,
         }
     }

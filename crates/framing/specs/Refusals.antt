@@ -67,8 +67,8 @@ unless_refused (suc m) a b = b
 
 -- the ground where the test holds
 unfoldable pub refuse : Bool → Refusal → Refusal
-refuse true ground = ground
-refuse false ground = none
+refuse true reason = reason
+refuse false reason = none
 
 -- the first refusal, or else the next
 unfoldable pub or_else : Refusal → Refusal → Refusal

@@ -66,8 +66,8 @@ order_untold = record { ticket = 0; limit = 0 }
 
 -- a refusal: zeros
 unfoldable pub train_refused : ℕ → TrainAnswer
-train_refused ground = record {
-  answer = ground;
+train_refused reason = record {
+  answer = reason;
   loco = 0;
   ticket = 0;
   start = 0;

@@ -115,15 +115,15 @@ pub fn tell(train: Train) -> TrainAnswer
 }
 
 impl TrainAnswer {
-    pub fn refused(ground: u32) -> TrainAnswer
-        ensures { result ≡ train_refused ground }
+    pub fn refused(reason: u32) -> TrainAnswer
+        ensures { result ≡ train_refused reason }
     {
         let none = OrderTold {
             ticket: 0,
             limit: 0,
         };
         TrainAnswer {
-            answer: ground,
+            answer: reason,
             loco: 0,
             ticket: 0,
             start: 0,

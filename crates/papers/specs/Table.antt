@@ -25,7 +25,7 @@ gates_read gates bytes = 0 ∷ 0 ∷ gates ∷ bytes ∷ []
 
 -- a gate read that is refused, and the bit at fault
 abbrev pub refused : ℕ → ℕ → List ℕ
-refused ground place = ground ∷ place ∷ 0 ∷ 0 ∷ []
+refused reason place = reason ∷ place ∷ 0 ∷ 0 ∷ []
 
 -- a gate outside a sub-packet: distance and number in two bytes each, high byte first, then one for each other field
 abbrev pub gate : ℕ → ℕ → ℕ → ℕ → ℕ → ℕ → ℕ → List ℕ

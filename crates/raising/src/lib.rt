@@ -18,10 +18,10 @@ use trains::record::Train;
 const NA: u32 = 0;
 
 // In a chain of checks, from the first on: the ground that was found; where there is none yet, the next check's, where its test holds.
-fn first(ground: u32, test: bool, next: u32) -> u32
-    ensures { result ≡ cond (eqb ground 0 && test) next ground }
+fn first(reason: u32, test: bool, next: u32) -> u32
+    ensures { result ≡ cond (eqb reason 0 && test) next reason }
 {
-    if (ground == 0) & test { next } else { ground }
+    if (reason == 0) & test { next } else { reason }
 }
 
 // What a share lacks: a position that was never reported, or a place where the train has none; 0 for nothing.

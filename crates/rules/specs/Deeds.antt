@@ -38,7 +38,7 @@ changed_with answer t = record { answer = answer; train = t }
 
 -- where the test holds, the train afterwards, with its effective end for an answer; else refused on a ground, and the train as it was
 unfoldable pub changed_if : Bool → ℕ → Train → Train → Changed
-changed_if test ground before after = cond test (changed_with (end_answer (end_of after)) after) (changed_with (refused_with ground) before)
+changed_if test reason before after = cond test (changed_with (end_answer (end_of after)) after) (changed_with (refused_with reason) before)
 
 -- the train after a mode step; a step that stays, which has priority 0, changes nothing
 unfoldable pub step_taken : Train → Step → Train

@@ -7,11 +7,11 @@ use Rattle.rules.specs.{Effect.row_only, declared.effect.Effect.Effect, declared
 
 -- where the test holds, its ground; else what follows in the chain of checks. 0 at its end is no ground
 unfoldable pub when : Bool → ℕ → ℕ → ℕ
-when test ground next = cond test ground next
+when test reason next = cond test reason next
 
 -- where the test does not hold, its ground; else what follows
 unfoldable pub unless : Bool → ℕ → ℕ → ℕ
-unless test ground next = cond test next ground
+unless test reason next = cond test next reason
 
 -- an answer that accepts, with its three numbers
 abbrev pub accepted_with : ℕ → ℕ → ℕ → Answer
@@ -19,7 +19,7 @@ accepted_with first second third = record { answer = 0; first = first; second = 
 
 -- an answer that refuses: zeros
 abbrev pub refused_with : ℕ → Answer
-refused_with ground = record { answer = ground; first = 0; second = 0; third = 0 }
+refused_with reason = record { answer = reason; first = 0; second = 0; third = 0 }
 
 -- an answer accepts exactly when its number is 0
 abbrev pub accepts : Answer → Bool
@@ -31,8 +31,8 @@ ruling answer counter effect = record { answer = answer; counter = counter; effe
 
 -- an operation that is refused: the counter stays, and there is no effect
 abbrev pub refused : Ticket → ℕ → Ruling
-refused counter ground = ruling (refused_with ground) counter (row_only row_count blank_train)
+refused counter reason = ruling (refused_with reason) counter (row_only row_count blank_train)
 
 -- refused on a ground; or, where there is none, what the operation does
 unfoldable pub ruled : Ticket → ℕ → Ruling → Ruling
-ruled counter ground done = cond (eqb ground 0) done (refused counter ground)
+ruled counter reason done = cond (eqb reason 0) done (refused counter reason)

@@ -37,11 +37,11 @@ impl Answer {
         }
     }
 
-    pub fn refused(ground: u32) -> Answer
-        ensures { result ≡ refused_with ground }
+    pub fn refused(reason: u32) -> Answer
+        ensures { result ≡ refused_with reason }
     {
         Answer {
-            answer: ground,
+            answer: reason,
             first: 0,
             second: 0,
             third: 0,
@@ -81,10 +81,10 @@ impl Ruling {
     }
 
     // The counter stays, and there is no effect.
-    pub fn refused(counter: Ticket, ground: u32) -> Ruling
-        ensures { result ≡ refused counter ground }
+    pub fn refused(counter: Ticket, reason: u32) -> Ruling
+        ensures { result ≡ refused counter reason }
     {
-        let answer = Answer::refused(ground);
+        let answer = Answer::refused(reason);
         let none = Train::blank();
         Ruling::of(answer, counter, Slot(0), 0, false, ROWS, none, ROWS, none)
     }

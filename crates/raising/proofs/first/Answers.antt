@@ -2,8 +2,8 @@
 
 use Rattle.raising.proofs.first.Goals as goal
 
-pub returns-then-ground-test : goal.returns-then-ground-test
-returns-then-ground-test c = simp c.if-ground-test.true
+pub returns-then-reason-test : goal.returns-then-reason-test
+returns-then-reason-test c = simp c.if-reason-test.true
 
-pub returns-else-ground-test : goal.returns-else-ground-test
-returns-else-ground-test c = simp c.if-ground-test.false
+pub returns-else-reason-test : goal.returns-else-reason-test
+returns-else-reason-test c = simp c.if-reason-test.false
