@@ -18,7 +18,7 @@ use Rattle.profiles.specs.Writing.{written, write_refusal}
 use Rattle.profiles.proofs.ReadingLaws.{accepted}
 use Rattle.profiles.proofs.PlaceLaws.{Told, at_header, at_count, at_entry, at_padding, told}
 use Rattle.profiles.proofs.RoundTrip.{Wrote, wrote, read-accepts, write_read, written_past}
-use Rattle.gates.specs.Gates.{gate_type, gate_bytes, gate_widths, bits_with}
+use Rattle.gates.specs.Gates.{gate_bits, gate_type, gate_bytes, gate_widths, bits_with}
 use Rattle.gates.specs.Forms.{layout_of, other_form, profile_in}
 use Rattle.gates.specs.{declared.forms.Form.Form, declared.forms.Form.TheVariants.Old, declared.forms.Form.TheVariants.New}
 use Rattle.gates.proofs.GateLaws.{regular_in, form_wide, bits-read, sayable, full, each_form, other-other}
@@ -51,7 +51,7 @@ accepts from s room g fits =
 distances-clear : (from : Form) (p : ℕ) (list : List ℕ) (n : ℕ) → Clear (distances_refusal from p list n)
 unfolding distances_refusal
 distances-clear from p list zero = λ z. refl
-distances-clear from p list (suc n) = clear-or_else _ _ (distances-clear from _ _ n)
+distances-clear from p list (suc n) = clear-or_else _ _ (distances-clear from (p + gate_bits (layout_of from).distance) _ n)
 
 judged-clear : (from : Form) (s : List ℕ) → Clear (judged_refusal from s)
 unfolding judged_refusal

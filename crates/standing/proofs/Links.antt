@@ -8,6 +8,7 @@ use contract.Lifetimes.{Lfts}
 use contract.Monad.{fact}
 use borrow.Fn.World.{World, Pr}
 use denote.Ref.{Bor}
+use denote.MutBor.{MutBor}
 use Rattle.kinds.specs.declared.Loco.{Loco}
 use Rattle.kinds.specs.declared.Ticket.{Ticket}
 use Rattle.replay.specs.Demand3.{Call}
@@ -26,14 +27,14 @@ pub came_did : (bs : List ℕ) (c : Call Op) (r : Answer) (after : List ℕ) →
 came_did bs c r after answer left = (ap (said c) answer, left)
 
 -- a call in any world of the logic: the lent bytes before and after it, and its answer
-module _ (w : World) (before after : Bor (List ℕ)) (r : Answer) where
+module _ (w : World) (before after : MutBor (List ℕ)) (r : Answer) where
   -- the answer and the bytes after are these
   abbrev pub Done : Came → Pr w
   Done d = sep w.𝓤 (fact w.𝓤 (r ≡ d.answer)) (fact w.𝓤 (after.now ≡ d.after))
 
   -- a contract, with further arguments, asks nothing and promises these
-  abbrev pub Says : {A : Type 0} → (Bor (List ℕ) × A → Unit {0} → (v : World) → Pr v)
-      → (Bor (List ℕ) × A → Unit {0} → Answer → Bor (List ℕ) × A → (v : World) → Pr v) → A → (List ℕ → Came) → Type 2
+  abbrev pub Says : {A : Type 0} → (MutBor (List ℕ) × A → Unit {0} → (v : World) → Pr v)
+      → (MutBor (List ℕ) × A → Unit {0} → Answer → MutBor (List ℕ) × A → (v : World) → Pr v) → A → (List ℕ → Came) → Type 2
   Says requires ensures a came = (requires (before, a) tt w ≡ emp w.𝓤) × (ensures (before, a) tt r (after, a) w ≡ Done (came before.now))
 
   module _ (κs : Lfts 1) where

@@ -43,13 +43,13 @@ module _ (c : After-put_gates) where
   head = (goal.at.After-put_gates c).After-put_header-written
 
   abbrev counted : After-count_of-count
-  counted = head
+  counted = (goal.at.After-put_gates c).After-count_of-count
 
   abbrev taken : After-take_gates-refusal
-  taken = counted
+  taken = (goal.at.After-put_gates c).After-take_gates-refusal
 
   abbrev start : Start
-  start = taken
+  start = (goal.at.After-put_gates c).Start
 
   abbrev from : Form
   from = start.args.from

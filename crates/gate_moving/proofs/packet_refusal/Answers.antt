@@ -21,7 +21,7 @@ module _ (c : After-shape_refusal-shape) where
   counted = (goal.at.After-shape_refusal-shape c).After-count_of-count
 
   abbrev start : Start
-  start = counted
+  start = (goal.at.After-shape_refusal-shape c).Start
 
   abbrev form : Form
   form = start.args.form

@@ -27,7 +27,7 @@ module _ (c : After-layout-to) where
   headed = (goal.at.After-layout-to c).After-head_refusal-head
 
   abbrev start : Start
-  start = headed
+  start = (goal.at.After-layout-to c).Start
 
   abbrev from : Form
   from = start.args.from

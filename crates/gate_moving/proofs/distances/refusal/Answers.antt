@@ -21,7 +21,7 @@ module _ (c : After-distance_refusal-refusal) where
   loop = (goal.at.After-distance_refusal-refusal c).At-loop-i
 
   abbrev start : Start
-  start = loop
+  start = (goal.at.After-distance_refusal-refusal c).Start
 
   abbrev from : Form
   from = start.args.from
@@ -36,7 +36,7 @@ pub returns-then-refusal-ne-ACCEPTED : goal.returns-then-refusal-ne-ACCEPTED
 returns-then-refusal-ne-ACCEPTED c = let turn = c in
     let l = (loop (goal.at.returns-then-refusal-ne-ACCEPTED c).After-distance_refusal-refusal).loop-i in
     let a = (start (goal.at.returns-then-refusal-ne-ACCEPTED c).After-distance_refusal-refusal).args in
-    distances-stop a.from a.kept.now l.i a.n turn.loop-i-test.true (omega (arith, (start (goal.at.returns-then-refusal-ne-ACCEPTED c).After-distance_refusal-refusal).requires)) l.p turn.distance_refusal-refusal.result (judged (goal.at.returns-then-refusal-ne-ACCEPTED c).After-distance_refusal-refusal) c.if-refusal-ne-ACCEPTED.true ∙ l.inv.2
+    distances-stop a.from a.kept.now l.i a.n turn.loop-i-test.true (omega (arith, (start (goal.at.returns-then-refusal-ne-ACCEPTED c).After-distance_refusal-refusal).requires)) l.p turn.distance_refusal-refusal.result (judged (goal.at.returns-then-refusal-ne-ACCEPTED c).After-distance_refusal-refusal) c.if-refusal-ne-ACCEPTED.true ∙ l.invariant.2
 
 -- a gate of either form has at most 35 bits
 bits_eq : (c : After-gate_bits-p) → c.gate_bits-p.result ≡ gate_bits (layout_of (from (goal.at.After-gate_bits-p c).After-distance_refusal-refusal)).distance
@@ -51,7 +51,7 @@ loop-i-preserved c = let turn = c in
       omega (arith, bits_eq c, form_narrow a.from),
       ap₂ (λ (b k : ℕ). distances_refusal a.from (l.p + b) (spread (slice (l.i + 1) a.n a.kept.now)) k) (bits_eq c) less
           ∙ distances_go a.from a.kept.now l.i a.n turn.loop-i-test.true (omega (arith, (start (goal.at.loop-i-preserved c).After-distance_refusal-refusal).requires)) l.p turn.distance_refusal-refusal.result (judged (goal.at.loop-i-preserved c).After-distance_refusal-refusal) c.if-refusal-ne-ACCEPTED.false
-          ∙ l.inv.2,
+          ∙ l.invariant.2,
     )
 
 pub returns : goal.returns

@@ -13,11 +13,11 @@ returns-then-fits c text h =
     let tested = copy in
     let a = tested.args in (
       line-size a.line text h,
-      line-copied a.output.now a.at a.line _ text (leb-true _ _ (sym tested.fits2.ensures ∙ copy.if-fits.true)) copy.copy.ensures h,
+      line-copied a.output.now a.at a.line _ text (leb-true _ _ (sym tested.fits.ensures ∙ copy.if-fits.true)) copy.copy.ensures h,
     )
 
 pub returns-else-fits : goal.returns-else-fits
 returns-else-fits c text h =
     let a = c.args in
-    let past : length a.output.now < a.at + a.line.len = leb-false _ _ (sym c.fits2.ensures ∙ c.if-fits.false) in
+    let past : length a.output.now < a.at + a.line.len = leb-false _ _ (sym c.fits.ensures ∙ c.if-fits.false) in
     (line-size a.line text h, sym (put-none a.output.now a.at text (omega (arith, past, line-length a.line text h))))
