@@ -73,7 +73,7 @@ module _ (c : After-put_gates) where
   size : head.put_header-written.result ≡ moved_size from s
   size = head.put_header-written.ensures.value ∙ ap₂ (λ (l : Layout) (k : ℕ). bytes_for (bits_with l.distance k)) width count
 
-  headed : head.put_header-written.last.0 ≡ header_put (moved_size from s) (count_of (profile_in from) s) o
+  headed : head.put_header-written.new.out ≡ header_put (moved_size from s) (count_of (profile_in from) s) o
   headed = head.put_header-written.ensures.out_after ∙ ap₂ (λ (l : Layout) (k : ℕ). header_put (bytes_for (bits_with l.distance k)) k o) width count
 
 pub returns : goal.returns
