@@ -6,6 +6,7 @@ use Prim.Native.Nat.{ℕ}
 use contract.Lifetimes.{Lfts}
 use borrow.Fn.World.{World}
 use denote.Ref.{Bor}
+use denote.MutBor.{MutBor}
 use Rattle.replay.specs.Demand3.{op}
 use Rattle.rules.specs.Deeds.{Deed, flags, position, authority, danger, clear}
 use Rattle.rules.specs.Rules.{on}
@@ -20,7 +21,7 @@ use Rattle.host.specs.Kinds.{loco, ticket}
 abbrev deed_came : ℕ → ℕ → Deed → List ℕ → Came
 deed_came number under deed = came_of (op (on (loco number) (ticket under) deed))
 
-module _ (w : World) (before after : Bor (List ℕ)) (r : Answer) where
+module _ (w : World) (before after : MutBor (List ℕ)) (r : Answer) where
   module _ (κs : Lfts 1) where
     pub kb_start : Says w before after r (operations.kb_start.Reads.requires κs) (operations.kb_start.Reads.ensures κs) tt start_came
     kb_start = (refl, refl)
