@@ -24,7 +24,7 @@ overflow_add-at c =
     let next = c in
     let held = next in
     let tested = held in
-    let past = reached_next tested.loop-over.invariant.0 tested.loop-over-test.true held.if-at-recording.true next.next-turn.ensures in
+    let past = reached_next tested.loop-over.invariant.0 tested.loop-over-test.true held.if-at-recording.true (next.next-turn.ensures.value, (next.next-turn.ensures.session_after, next.next-turn.ensures.output_after)) in
     omega (arith, past.inside)
 
 pub overflow_add-written : goal.overflow_add-written
@@ -32,7 +32,7 @@ overflow_add-written c =
     let next = c in
     let held = next in
     let tested = held in
-    let past = reached_next tested.loop-over.invariant.0 tested.loop-over-test.true held.if-at-recording.true next.next-turn.ensures in
+    let past = reached_next tested.loop-over.invariant.0 tested.loop-over-test.true held.if-at-recording.true (next.next-turn.ensures.value, (next.next-turn.ensures.session_after, next.next-turn.ensures.output_after)) in
     omega (arith, past.short, past.most)
 
 pub overflow_add-accepted : goal.overflow_add-accepted
@@ -40,7 +40,7 @@ overflow_add-accepted c =
     let next = c in
     let held = next in
     let tested = held in
-    let past = reached_next tested.loop-over.invariant.0 tested.loop-over-test.true held.if-at-recording.true next.next-turn.ensures in
+    let past = reached_next tested.loop-over.invariant.0 tested.loop-over-test.true held.if-at-recording.true (next.next-turn.ensures.value, (next.next-turn.ensures.session_after, next.next-turn.ensures.output_after)) in
     omega (arith, past.counted, past.most)
 
 pub loop-over-smaller : goal.loop-over-smaller
@@ -53,7 +53,7 @@ loop-over-preserved c =
     let next = c in
     let held = next in
     let tested = held in
-    let past = reached_next tested.loop-over.invariant.0 tested.loop-over-test.true held.if-at-recording.true next.next-turn.ensures in
+    let past = reached_next tested.loop-over.invariant.0 tested.loop-over-test.true held.if-at-recording.true (next.next-turn.ensures.value, (next.next-turn.ensures.session_after, next.next-turn.ensures.output_after)) in
     (past, search rules, search rules)
 
 pub overflow_add-result : goal.overflow_add-result
