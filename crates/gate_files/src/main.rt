@@ -4,6 +4,7 @@ mod files;
 mod telling;
 
 use gates::forms::Form;
+use std::env::Env;
 
 // The form that is read, by the program's word.
 #[derive(Clone, Copy)]
@@ -12,9 +13,11 @@ enum Way {
     Unclear,
 }
 
-fn asked() -> Way {
+fn asked(rt: &impl Env) -> Way {
     let mut word = io::buffer();
-    let n = os::arg(1, &mut word);
+    let Ok(n) = rt.arg(1, &mut word) else {
+        return Way::Unclear;
+    };
     if check::same(&word[..n], b"forward") {
         return Way::From(Form::Old);
     }
@@ -24,12 +27,12 @@ fn asked() -> Way {
     Way::Unclear
 }
 
-fn main() {
-    let Way::From(form) = asked() else {
+fn main(rt: HostRuntime) {
+    let Way::From(form) = asked(&rt) else {
         telling::unclear();
         return;
     };
     let mut input = io::large_buffer();
-    let file = files::move_all(form, &mut input);
+    let file = files::move_all(&mut rt.stdin(), form, &mut input);
     telling::finish(file);
 }

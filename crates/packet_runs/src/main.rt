@@ -7,8 +7,12 @@
 ghost use Rattle.std.specs.Prelude.{◌≡◌, ◌<◌, ◌≤◌, length};
 
 use gates::forms::Form;
-use libc::{STDIN_FILENO, STDOUT_FILENO};
 use profiles::{EntriesRead, EntriesWritten};
+
+// The descriptors of the standard input and output.
+const STDIN_FILENO: i32 = 0;
+
+const STDOUT_FILENO: i32 = 1;
 
 const HEADER: usize = 5;
 

@@ -4,8 +4,8 @@ mod answer;
 mod files;
 mod telling;
 
-fn main() {
+fn main(rt: HostRuntime) {
     let mut input = io::large_buffer();
-    let file = files::check_all(&mut input);
+    let file = files::check_all(&mut rt.stdin(), &mut input);
     telling::finish(file, holding::part(&input, file.held));
 }
