@@ -1,5 +1,7 @@
 // Checks a vendor's mode trace: reads it from standard input, and tells on standard output whether it is right, or which entry is the first that is not.
 // How it went is told on descriptor 3 too.
+#![tactic(auto)]
+
 mod answer;
 mod files;
 mod telling;
