@@ -4,6 +4,8 @@
 // A line: kind, answer, what is told besides, and the whole output afterwards, which held AA before. A read tells place, entries and bytes, a write
 // entries and bytes, a move place, gates and the bytes of both sub-packets. Framing tells the place and the sub-packet's length, and prints the
 // sub-packet.
+#![tactic(auto)]
+
 ghost use Rattle.std.specs.Prelude.{◌≡◌, ◌<◌, ◌≤◌, length};
 
 use gates::forms::Form;
