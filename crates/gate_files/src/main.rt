@@ -1,5 +1,7 @@
 // Moves a file of gate sub-packets from one form to the other: reads it from standard input, and writes each sub-packet to standard output once it is
 // moved. The program's word says which way: forward, from the old form to the new one, or back. How it went is told on descriptor 3.
+#![tactic(auto)]
+
 mod files;
 mod telling;
 
@@ -13,7 +15,7 @@ enum Way {
     Unclear,
 }
 
-fn asked(rt: &impl Env) -> Way {
+fn asked(rt: &HostRuntime) -> Way {
     let mut word = io::buffer();
     let Ok(n) = rt.arg(1, &mut word) else {
         return Way::Unclear;
