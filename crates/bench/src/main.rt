@@ -7,12 +7,15 @@ ghost use Rattle.turns.specs.Placing.{put_at};
 ghost use Rattle.bench.specs.Playing.{bytes, begun_play, goes_on, stopped_at, CanGoOn, RunsFirst, IsTurn, IsPlayed, IsEnded, IsListed};
 
 use holding::Held;
-use libc::STDERR_FILENO;
 use listing::runs;
 use pending::Pending;
 use records::form::LONGEST;
+use std::io::Read;
 
 mod pending;
+
+// The descriptor of the standard error.
+const STDERR_FILENO: i32 = 2;
 
 // A play between two records. It is over once its last record is listed.
 #[derive(Clone, Copy)]
@@ -94,14 +97,20 @@ fn run_first(
 }
 
 // One turn: more of the recording is read where too little is held, and what is pending is written where a line has no room.
-fn step(play: Play, session: &mut [u8], input: &mut [u8], output: &mut [u8]) -> Play
+fn step<R: Read>(
+    reader: &mut R,
+    play: Play,
+    session: &mut [u8],
+    input: &mut [u8],
+    output: &mut [u8],
+) -> Play
     requires { CanGoOn play × (room ≤ length output.old) }
     ensures { IsTurn play (bytes session.old input.old output.old)
         (bytes session.new input.new output.new) result }
 {
     let earlier = play.held;
     let waiting = play.pending;
-    let held = holding::ready(input, earlier, LONGEST);
+    let held = holding::ready(reader, input, earlier, LONGEST);
     let pending = pending::with_room(output, waiting);
     run_first(
         play,
@@ -114,14 +123,14 @@ fn step(play: Play, session: &mut [u8], input: &mut [u8], output: &mut [u8]) -> 
 }
 
 // Plays record after record. Behind the most records that a recording can have, another one is none, and the play is over.
-fn played(session: &mut [u8], input: &mut [u8], output: &mut [u8]) -> Play
+fn played<R: Read>(reader: &mut R, session: &mut [u8], input: &mut [u8], output: &mut [u8]) -> Play
     requires { room ≤ length output.old }
     ensures { IsPlayed (bytes session.old input.old (put_at output.old 0 run_line))
         (bytes session.new input.new output.new) result }
 {
     let mut play = begun(output);
     while goes_on(play) {
-        play = step(play, session, input, output);
+        play = step(reader, play, session, input, output);
     }
     play
 }
@@ -141,11 +150,11 @@ fn with_end(output: &mut [u8], play: Play) -> Pending
 }
 
 // The whole listing, but for what is still pending.
-fn listed(session: &mut [u8], input: &mut [u8], output: &mut [u8]) -> Play
+fn listed<R: Read>(reader: &mut R, session: &mut [u8], input: &mut [u8], output: &mut [u8]) -> Play
     requires { (session.old ≡ empty_session) × (room ≤ length output.old) }
     ensures { IsListed (bytes session.old input.old (put_at output.old 0 run_line)) output.new result }
 {
-    let play = played(session, input, output);
+    let play = played(reader, session, input, output);
     let held = play.held;
     let pending = with_end(output, play);
     Play {
@@ -174,10 +183,10 @@ fn finish(output: &[u8], play: Play) {
     }
 }
 
-fn main() {
+fn main(rt: HostRuntime) {
     let mut session = runs::empty_session();
     let mut input = io::large_buffer();
     let mut output = io::large_buffer();
-    let play = listed(&mut session, &mut input, &mut output);
+    let play = listed(&mut rt.stdin(), &mut session, &mut input, &mut output);
     finish(&output, play);
 }

@@ -3,7 +3,8 @@ ghost use Rattle.std.specs.Prelude.{true, ◌≡◌, ◌+◌, ◌≤◌, ◌<◌
 ghost use Rattle.lines.specs.Line.{room};
 ghost use Rattle.bench.specs.Pending.{nothing_pending, with_more, HasRoom};
 
-use libc::STDOUT_FILENO;
+// The descriptor of the standard output.
+const STDOUT_FILENO: i32 = 1;
 
 // The first `filled` bytes of the buffer. It is writable until a write fails.
 #[derive(Clone, Copy)]

@@ -8,7 +8,10 @@ use framing::refusals;
 use framing::refusals::Refusal;
 use gates::forms::Form;
 use holding::Held;
-use libc::STDOUT_FILENO;
+use std::io::Read;
+
+// The descriptor of the standard output.
+const STDOUT_FILENO: i32 = 1;
 
 // The bytes of the longest sub-packet that a header can tell, of either form.
 const LONGEST: usize = 127;
@@ -104,12 +107,12 @@ fn move_first(from: Form, file: File, held: Held, first: &[u8], out: &mut [u8]) 
 }
 
 // One turn, but for the writing: more of the file is read where too little is held, and its first sub-packet is moved.
-fn step(from: Form, file: File, input: &mut [u8], out: &mut [u8]) -> File
+fn step<R: Read>(reader: &mut R, from: Form, file: File, input: &mut [u8], out: &mut [u8]) -> File
     requires { CanGoOn file × (out.old ≡ blank) }
     ensures { IsTurn from file input.old input.new out.new result }
 {
     let earlier = file.held;
-    let held = holding::ready(input, earlier, LONGEST);
+    let held = holding::ready(reader, input, earlier, LONGEST);
     move_first(from, file, held, holding::part(input, held), out)
 }
 
@@ -133,13 +136,13 @@ fn written(file: File, out: &[u8]) -> File
 }
 
 // Moves sub-packet after sub-packet.
-pub(crate) fn move_all(from: Form, input: &mut [u8]) -> File
+pub(crate) fn move_all<R: Read>(reader: &mut R, from: Form, input: &mut [u8]) -> File
     ensures { IsMoved from input.old input.new result }
 {
     let mut file = begun();
     while goes_on(file) {
         let mut out = [0u8; LONGEST];
-        let made = step(from, file, input, &mut out);
+        let made = step(reader, from, file, input, &mut out);
         file = written(made, &out);
     }
     file

@@ -5,7 +5,9 @@ ghost use Rattle.gate_files.specs.Outcome.{outcome_of};
 use crate::files::File;
 use framing::refusals;
 use framing::refusals::Refusal;
-use libc::STDERR_FILENO;
+
+// The descriptor of the standard error.
+const STDERR_FILENO: i32 = 2;
 
 // Where the outcome is told, as a digit.
 const OUTCOME_FILENO: i32 = 3;

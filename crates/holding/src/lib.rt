@@ -1,9 +1,12 @@
 // An input that is read piece by piece: what is held of it is a stretch of a buffer, which is read into as its items are used, one after another.
 // `longest` is the bytes of the longest item.
-ghost use Rattle.std.specs.Prelude.{◌≡◌, ◌+◌, ◌≤◌, length, take, drop};
-ghost use Rattle.holding.specs.Held.{held_bytes, held_at, nothing_held, behind_by, is_end, got_by, ReadOn, IsReady};
+#![tactic(auto)]
 
-use libc::STDIN_FILENO;
+ghost use Rattle.std.specs.Prelude.{◌≡◌, ◌+◌, ◌≤◌, length, take, drop, true, pos, IfOk, OnErr};
+ghost use Rattle.std.specs.Io.{ReadsAtMost};
+ghost use Rattle.holding.specs.Held.{is_failure, held_bytes, held_at, nothing_held, behind_by, is_end, got_by, ReadOn, IsReady};
+
+use std::io::{Read, Result};
 
 // The bytes of the buffer from `at` up to `end`. The input has ended once a read has given nothing, and failed where that read did.
 #[derive(Clone, Copy)]
@@ -33,11 +36,24 @@ impl Got {
     }
 }
 
-fn read_some(buffer: &mut [u8]) -> Got
+// The system's answer to a read into `buffer`, by what std tells of it: below 0 where the read failed.
+fn answer_of(read: Result<usize>, buffer: &[u8]) -> isize
+    requires { ReadsAtMost read buffer.now }
+    ensures count { IfOk read (λ n. result ≡ pos n) }
+    ensures failure { OnErr read (is_failure result ≡ true) }
+{
+    match read {
+        Ok(count) => count as isize,
+        Err(_) => -1,
+    }
+}
+
+// One read of the input.
+fn read_some<R: Read>(reader: &mut R, buffer: &mut [u8]) -> Got
     ensures { result.count ≤ length buffer.old }
 {
-    let answer = libc::read(STDIN_FILENO, buffer);
-    Got::by(answer, buffer)
+    let read = reader.read(buffer);
+    Got::by(answer_of(read, buffer), buffer)
 }
 
 // Makes the bytes from `at` on the first ones, `n` of them.
@@ -96,13 +112,13 @@ pub fn part(buffer: &[u8], held: Held) -> &[u8]
 }
 
 // Reads behind the first `kept` bytes until the longest item would be whole, or nothing more comes.
-fn read_on(buffer: &mut [u8], kept: usize, longest: usize) -> Held
+fn read_on<R: Read>(reader: &mut R, buffer: &mut [u8], kept: usize, longest: usize) -> Held
     requires { kept ≤ length buffer.old }
     ensures { ReadOn longest kept buffer.old buffer.new result }
 {
     let mut end = kept;
     while end < longest {
-        let got = read_some(&mut buffer[end..]);
+        let got = read_some(reader, &mut buffer[end..]);
         if got.count == 0 {
             return Held {
                 at: 0,
@@ -123,7 +139,7 @@ fn read_on(buffer: &mut [u8], kept: usize, longest: usize) -> Held
 
 // Holds the longest item, or all that is left. What is held is moved to the front only where it is shorter, so a byte is moved at
 // most once for each read.
-pub fn ready(buffer: &mut [u8], held: Held, longest: usize) -> Held
+pub fn ready<R: Read>(reader: &mut R, buffer: &mut [u8], held: Held, longest: usize) -> Held
     ensures { IsReady longest buffer.old held buffer.new result }
 {
     let end = numbers::at_most(held.end, buffer.len());
@@ -136,5 +152,5 @@ pub fn ready(buffer: &mut [u8], held: Held, longest: usize) -> Held
         return held;
     }
     to_front(buffer, at, kept);
-    read_on(buffer, kept, longest)
+    read_on(reader, buffer, kept, longest)
 }

@@ -3,8 +3,12 @@
 // the whole output, which held dots before.
 ghost use Rattle.std.specs.Prelude.{◌≡◌, ◌<◌, ◌≤◌, length};
 
-use libc::{STDIN_FILENO, STDOUT_FILENO};
 use listing::whole;
+
+// The descriptors of the standard input and output.
+const STDIN_FILENO: i32 = 0;
+
+const STDOUT_FILENO: i32 = 1;
 
 const HEADER: usize = 4;
 

@@ -1,6 +1,8 @@
 // Prints the mode step of every mode for no flags, for each single flag and for all flags set, some steps with two and three flags, steps
 // that are refused, and frame ages. A line is what was asked, the answer's number and its values; of a step by the engine in use, then by
 // the plain one.
+#![tactic(auto)]
+
 ghost use Rattle.std.specs.Prelude.{◌≡◌, length};
 ghost use Rattle.modes.specs.Flags.{flag_count};
 

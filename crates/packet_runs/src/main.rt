@@ -4,11 +4,17 @@
 // A line: kind, answer, what is told besides, and the whole output afterwards, which held AA before. A read tells place, entries and bytes, a write
 // entries and bytes, a move place, gates and the bytes of both sub-packets. Framing tells the place and the sub-packet's length, and prints the
 // sub-packet.
+#![tactic(auto)]
+
 ghost use Rattle.std.specs.Prelude.{◌≡◌, ◌<◌, ◌≤◌, length};
 
 use gates::forms::Form;
-use libc::{STDIN_FILENO, STDOUT_FILENO};
 use profiles::{EntriesRead, EntriesWritten};
+
+// The descriptors of the standard input and output.
+const STDIN_FILENO: i32 = 0;
+
+const STDOUT_FILENO: i32 = 1;
 
 const HEADER: usize = 5;
 

@@ -3,6 +3,7 @@ ghost use Rattle.std.specs.Prelude.{◌≡◌, ◌<◌};
 ghost use Rattle.trace_files.specs.Turns.{begun_file, most_entries, goes_on, stopped_at, judged_first, IsTurn, IsChecked};
 
 use holding::Held;
+use std::io::Read;
 use traces::entry;
 use traces::entry::Judged;
 
@@ -82,22 +83,22 @@ fn judge_first(file: File, held: Held, first: &[u8]) -> File
 }
 
 // One turn.
-fn step(file: File, input: &mut [u8]) -> File
+fn step<R: Read>(reader: &mut R, file: File, input: &mut [u8]) -> File
     requires { file.entries < most_entries }
     ensures { IsTurn file input.old input.new result }
 {
     let earlier = file.held;
-    let held = holding::ready(input, earlier, entry::BYTES);
+    let held = holding::ready(reader, input, earlier, entry::BYTES);
     judge_first(file, held, holding::part(input, held))
 }
 
 // Judges entry after entry.
-pub(crate) fn check_all(input: &mut [u8]) -> File
+pub(crate) fn check_all<R: Read>(reader: &mut R, input: &mut [u8]) -> File
     ensures { IsChecked input.old input.new result }
 {
     let mut file = begun();
     while goes_on(file) {
-        file = step(file, input);
+        file = step(reader, file, input);
     }
     file
 }

@@ -6,10 +6,14 @@ ghost use Rattle.trace_files.specs.Outcome.{outcome_of};
 
 use crate::answer;
 use crate::files::File;
-use libc::{STDERR_FILENO, STDOUT_FILENO};
 use lines::ROOM;
 use traces::entry;
 use transitions::names;
+
+// The descriptors of the standard output and error.
+const STDOUT_FILENO: i32 = 1;
+
+const STDERR_FILENO: i32 = 2;
 
 // Where the outcome is told, as a digit.
 const OUTCOME_FILENO: i32 = 3;

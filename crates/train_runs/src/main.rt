@@ -1,5 +1,7 @@
 // Prints the row class of each mode and mode left, each cell, what each measure gives to L1 and L2, ends of authority, a train's
 // orders, and a register's searches. A line is what was asked and the answer.
+#![tactic(auto)]
+
 use grids::{cells, classes};
 use kinds::found::Found;
 use kinds::ranges::Location;

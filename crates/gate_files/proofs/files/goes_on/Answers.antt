@@ -1,0 +1,20 @@
+-- `gate_files::files::goes_on` meets its contract.
+use borrow.Author.Tests.{not-true, not-false}
+use Rattle.gate_files.specs.Turns.{goes_on}
+use Rattle.gate_files.proofs.files.goes_on.Goals as goal
+
+pub returns-then-file : goal.returns-then-file
+unfolding goes_on
+returns-then-file c = simp c.if-file.true
+
+pub returns-then-held : goal.returns-then-held
+unfolding goes_on
+returns-then-held c = simp (c.if-file.false, c.if-held.true)
+
+pub returns-then-not-file : goal.returns-then-not-file
+unfolding goes_on
+returns-then-not-file c = simp (c.if-file.false, c.if-held.false, not-true c.args.file.writable c.if-not-file.true)
+
+pub returns : goal.returns
+unfolding goes_on
+returns c = simp (c.if-file.false, c.if-held.false, not-false c.args.file.writable c.if-not-file.false)

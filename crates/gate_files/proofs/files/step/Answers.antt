@@ -1,0 +1,9 @@
+-- `gate_files::files::step` meets its contract.
+use Rattle.gate_files.proofs.files.step.Goals as goal
+
+pub returns : goal.returns
+returns g c = record {
+  held = c.ready-held.result;
+  ready = c.ready-held.ensures;
+  moves = rw c.part.ensures.result_value at c.move_first.ensures;
+}
