@@ -55,7 +55,7 @@
  * names both. Locations are whole metres, 0 to 524,287, rising ahead. Modes: 1 SB, 2 SR, 3 LS, 4 FS, 5 OV, 6 OS, 7 TR, 8 PT,
  * 9 RV, 10 SH, 11 NL, 12 SF, 13 IS.
  *
- * LINKING. `rt staticlib host` writes target/staticlib/libhost.a, for x86-64 Linux and its C calling convention.
+ * LINKING. `rt lib`, in crates/host, writes crates/host/out/libhost.a, for x86-64 Linux and its C calling convention.
  * examples/host.c is a whole small host.
  * The library approves nothing: no equipment, no line, no train.
  */

@@ -109,7 +109,7 @@ def commands():
 
 def lists():
     """Every crate and every sample is listed, and nothing else."""
-    crates = set(re.findall(r"^(\w+):", text(ROOT / "crates.txt"), re.MULTILINE))
+    crates = set(re.findall(r"^(\w+)(?: staticlib)?:", text(ROOT / "crates.txt"), re.MULTILINE))
     listed = {line[0].strip("`") for line in table(ROOT / "README.md") if len(line) == 2 and re.fullmatch(r"`\w+`", line[0])}
     if crates != listed:
         yield f"README.md and crates.txt differ in {sorted(crates ^ listed)}"

@@ -1,6 +1,6 @@
 -- What an SOS gives a train fits its row: the limits are locations of positions that fit.
 use mathlib.Core.Bool.{Bool, true, false, cond}
-use Prim.Native.Nat.{ℕ, ◌-◌, ◌^◌, ◌<◌}
+use Prim.Native.Nat.{ℕ, ◌^◌, ◌<◌}
 use native.Mathlib.Omega.{arith}
 use lib.Dec.{eqb}
 use Rattle.rows.proofs.FitLaws.{Word, PositionFits, LimitFits, Fits, fits-order}

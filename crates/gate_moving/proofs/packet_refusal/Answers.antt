@@ -12,7 +12,6 @@ use Rattle.gates.specs.declared.forms.Form.{Form}
 use Rattle.gates.specs.declared.forms.Layout.{Layout}
 use Rattle.gates.proofs.GateLaws.{form_wide}
 use Rattle.gate_reading.proofs.ReadingLaws.{gates_bits}
-use borrow.Author.Rules.{rules}
 use Rattle.gate_moving.proofs.packet_refusal.Goals.{After-shape_refusal-shape, After-count_of-count, Start}
 use Rattle.gate_moving.proofs.packet_refusal.Goals as goal
 

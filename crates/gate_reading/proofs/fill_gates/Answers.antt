@@ -1,5 +1,5 @@
 -- `gate_reading::fill_gates` meets its contract. The invariant: what is left to store, stored, is all the gates.
-use Prim.Native.Nat.{ℕ, ◌+◌, ◌-◌, ◌*◌}
+use Prim.Native.Nat.{ℕ, ◌+◌, ◌*◌}
 use mathlib.Core.Path.{◌≡◌, refl, sym, ap, ◌∙◌}
 use native.Mathlib.Omega.{arith}
 use lib.Seq.{sets, slice, slice_empty}

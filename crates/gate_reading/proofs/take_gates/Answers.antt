@@ -13,7 +13,6 @@ use Rattle.profiles.proofs.ReadingLaws.{end-room, end-clear}
 use Rattle.gates.specs.Gates.{gate_profile_with, gate_bytes, bits_with}
 use Rattle.gate_reading.specs.Steps.{first_gates, spread}
 use Rattle.gate_reading.proofs.ReadingLaws.{kept_gates_lem, none-taken}
-use borrow.Author.Rules.{rules}
 use Rattle.gate_reading.proofs.take_gates.Goals.{Start, After-load_gates, After-rules_refusal-rules, Else-rules-ne-ACCEPTED, After-end_refusal-end, Else-end-ne-ACCEPTED}
 use Rattle.gate_reading.proofs.take_gates.Goals as goal
 

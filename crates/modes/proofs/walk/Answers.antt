@@ -1,6 +1,5 @@
 -- `modes::walk` meets its contract. The loop's invariant: the best so far is the choice among the transitions passed.
 use mathlib.Core.Path.{◌≡◌, ◌∙◌}
-use Prim.Native.Nat.{◌-◌}
 use native.Mathlib.Omega.{arith}
 use Rattle.modes.proofs.Walking.{walk_none, walk_step, lent_wide}
 use Rattle.modes.proofs.walk.Goals as goal

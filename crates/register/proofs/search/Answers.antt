@@ -1,6 +1,5 @@
 -- `register::search` meets its contract.
 use mathlib.Core.Path.{refl, sym, ◌∙◌}
-use Prim.Native.Nat.{◌-◌}
 use Rattle.kinds.proofs.FoundLaws.{first_hit, first_miss, first-end}
 use Rattle.register.specs.Register.{row_holds, searched}
 use borrow.Author.Rules.{rules}

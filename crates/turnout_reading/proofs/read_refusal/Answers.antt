@@ -7,7 +7,6 @@ use Rattle.profiles.specs.Profiles.{count_of, rules_refusal}
 use Rattle.profiles.specs.Reading.{first_entries, entries_of, bits_of, shape_refusal, end_refusal, read_refusal}
 use Rattle.profiles.specs.Places.{entry_at}
 use Rattle.turnouts.specs.Turnouts.{turnout_profile, turnout_type, turnout_bytes}
-use borrow.Author.Rules.{rules}
 use Rattle.turnout_reading.proofs.read_refusal.Goals as goal
 
 pub returns : goal.returns

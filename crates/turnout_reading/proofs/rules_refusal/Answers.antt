@@ -5,7 +5,6 @@ use native.Mathlib.Omega.{arith}
 use Rattle.profiles.proofs.ProfileLaws.{rules-none}
 use Rattle.turnouts.specs.Turnouts.{turnout_profile, is_allowed}
 use Rattle.turnout_reading.proofs.ReadingLaws.{rules-stop, rules_go}
-use borrow.Author.Rules.{rules}
 use Rattle.turnout_reading.proofs.rules_refusal.Invariants.{the_rules}
 use Rattle.turnout_reading.proofs.rules_refusal.Goals as goal
 

@@ -1,5 +1,4 @@
 -- `judging::slots::lowest_run` meets its contract: the starts below were passed, and the slots of the run before this one are free.
-use Prim.Native.Nat.{◌-◌}
 use mathlib.Core.Path.{refl, sym, ◌∙◌}
 use native.Mathlib.Omega.{arith}
 use Rattle.store.specs.Stands.{book_of}

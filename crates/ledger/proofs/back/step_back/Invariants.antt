@@ -1,6 +1,5 @@
 -- `ledger::back::step_back` meets its contract. The invariant: what is left to undo, undone, is all of it.
 use mathlib.Core.Path.{◌≡◌}
-use Prim.Native.Nat.{◌-◌}
 use lib.ListN.{length}
 use Rattle.store.specs.Layout.{session_bytes}
 use Rattle.ledger.specs.Back.{stepped_by}

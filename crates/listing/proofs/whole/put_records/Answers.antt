@@ -1,10 +1,7 @@
 -- `listing::whole::put_records` meets its contract, and ends: the records that a recording can still have fall.
-use mathlib.Core.Path.{◌≡◌, refl}
-use mathlib.Core.Logic.{⊎_elim}
-use Prim.Native.Nat.{ℕ, ◌-◌}
+use mathlib.Core.Path.{refl}
 use native.Mathlib.Omega.{arith}
 use borrow.Author.Rules.{rules}
-use borrow.Author.Tests.{ltb-true, ltb-false, not-true, not-false}
 use Rattle.listing.proofs.WholeLaws.{reached_first, reached_next, reached_end}
 use Rattle.listing.proofs.whole.put_records.Goals.{then-loop-over-test+else-at-recording, else-loop-over-test}
 use Rattle.listing.proofs.whole.put_records.Goals as goal

@@ -1,6 +1,5 @@
 -- `modes::flags::has_bad_flag` meets its contract. The loop's invariant: no flag passed is above 1, so one is exactly where one of the rest is.
 use mathlib.Core.Path.{refl, ◌∙◌, sym}
-use Prim.Native.Nat.{◌-◌}
 use native.Mathlib.Omega.{arith}
 use borrow.Author.Rules.{rules}
 use Rattle.modes.proofs.Scanning.{above_here, above_next, above_end}

@@ -1,7 +1,6 @@
 -- `modes::plain::counts` meets its contract. The loop's invariant: no condition passed is set, so one is set exactly where one of the rest is.
 use mathlib.Core.Path.{◌≡◌, refl, ap, ◌∙◌, sym}
 use mathlib.Core.List.{[]}
-use Prim.Native.Nat.{◌-◌}
 use native.Mathlib.Omega.{arith}
 use lib.ListN.{length, get_or, drop}
 use Rattle.transitions.specs.Held.{transition_bytes}

@@ -1,8 +1,6 @@
 -- `modes::plain::walk` meets its contract. The loop's invariant: the best so far is that of the transitions passed.
 use mathlib.Core.Path.{◌≡◌, ap, ◌∙◌, sym}
 use mathlib.Core.List.{[]}
-use mathlib.Core.Logic.{⊎_elim}
-use Prim.Native.Nat.{◌-◌}
 use native.Mathlib.Omega.{arith}
 use lib.ListN.{get_or}
 use Rattle.transitions.proofs.Held.{transition_at}

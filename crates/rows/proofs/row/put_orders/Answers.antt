@@ -1,6 +1,5 @@
 -- `rows::row::put_orders` meets its contract: what is left, put, is the whole.
 use mathlib.Core.Path.{refl, sym, ◌∙◌}
-use Prim.Native.Nat.{◌-◌}
 use Rattle.rows.proofs.RowLaws.{sizes_left, values_left, order-next, order-end}
 use borrow.Author.Rules.{rules}
 use Rattle.rows.proofs.row.put_orders.Goals as goal

@@ -1,7 +1,7 @@
 -- `sos::shares::behind` meets its contract.
 use mathlib.Core.Path.{ap}
 use native.Mathlib.Omega.{arith}
-use Prim.Native.Nat.{ℕ, ◌-◌}
+use Prim.Native.Nat.{ℕ}
 use Rattle.trains.specs.declared.record.Limit.TheVariants.{To}
 use Rattle.sos.specs.declared.shares.Share.TheVariants.{Order}
 use Rattle.sos.specs.Shares.{behind}

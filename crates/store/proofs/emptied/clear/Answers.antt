@@ -1,6 +1,5 @@
 -- `store::emptied::clear` meets its contract. The invariant: the first i bytes are 0.
 use mathlib.Core.Path.{refl, ◌∙◌}
-use Prim.Native.Nat.{◌-◌}
 use native.Mathlib.Omega.{arith}
 use lib.ListN.{length-set}
 use Rattle.store.proofs.EmptyLaws.{zeros-more, zeros-all}

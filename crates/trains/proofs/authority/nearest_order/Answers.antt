@@ -1,6 +1,5 @@
 -- `trains::authority::nearest_order` meets its contract.
 use mathlib.Core.Path.{refl, sym, ◌∙◌}
-use Prim.Native.Nat.{◌-◌}
 use Rattle.trains.proofs.AuthorityLaws.{nearest-step, nearest-end}
 use borrow.Author.Rules.{rules}
 use Rattle.trains.proofs.authority.nearest_order.Goals as goal

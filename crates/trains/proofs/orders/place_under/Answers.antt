@@ -1,6 +1,5 @@
 -- `trains::orders::place_under` meets its contract.
 use mathlib.Core.Path.{refl, sym, ◌∙◌}
-use Prim.Native.Nat.{◌-◌}
 use Rattle.trains.specs.Orders.{stands_under, place_under}
 use Rattle.kinds.proofs.FoundLaws.{first_hit, first_miss, first-end}
 use borrow.Author.Rules.{rules}
