@@ -1,4 +1,6 @@
 // Plays a recording: reads it from standard input, runs its records on one session and writes the listing to standard output.
+#![tactic(auto)]
+
 ghost use Rattle.std.specs.Prelude.{◌≡◌, ◌+◌, ◌≤◌, length};
 ghost use Rattle.lines.specs.Line.{room};
 ghost use Rattle.lines.specs.Text.{run_line};

@@ -1,6 +1,8 @@
 // Lists the recordings that standard input holds, each lent whole, and prints what comes of it.
 // A case: the output's room and the recording's length (2 bytes each), and the recording. What is printed: the answer and the bytes written, and
 // the whole output, which held dots before.
+#![tactic(auto)]
+
 ghost use Rattle.std.specs.Prelude.{◌≡◌, ◌<◌, ◌≤◌, length};
 
 use listing::whole;
