@@ -11,7 +11,7 @@ returns-then-is_end c =
     c.stopped.ensures
 
 pub with-requires : goal.with-requires
-with-requires c = omega (arith, c.next-turn.ensures.value.1, c.requires.1, c.well_formed.1.1.1.1.1.0)
+with-requires c = omega (arith, c.next-turn.ensures.value.1, c.requires.1)
 
 pub overflow_add-result : goal.overflow_add-result
 overflow_add-result c = omega (arith, c.requires.0.few)
