@@ -57,8 +57,8 @@ fn gate_refusal(gate: u64, distance: u8) -> Refusal
 // The first of n gates that is refused, or n. Only a number is asked for here, so that the compiler need not tell the fields apart.
 fn first_refused(kept: &[u64], distance: u8, n: usize) -> usize
     requires { (8 ≤ distance) × (n ≤ 31) × (n ≤ length kept.now) }
-    ensures upper_bound { (result ≤ n) × (rules_from distance kept.now n result ≡ rules_refusal (gate_profile_with distance) 16 (spread (slice 0 n kept.now)) n) }
-    ensures fact { result < n → (gate_refusal distance (digits (get_or kept.now result 0))).number ≡ 0 → ⊥ }
+    ensures first { (result ≤ n) × (rules_from distance kept.now n result ≡ rules_refusal (gate_profile_with distance) 16 (spread (slice 0 n kept.now)) n) }
+    ensures refused { result < n → (gate_refusal distance (digits (get_or kept.now result 0))).number ≡ 0 → ⊥ }
 {
     let mut i = 0;
     while i < n {

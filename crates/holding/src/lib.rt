@@ -103,8 +103,8 @@ impl Held {
 
 // The bytes that are held, where they stand in the buffer.
 pub fn part(buffer: &[u8], held: Held) -> &[u8]
-    ensures result_value { result.now ≡ held_bytes buffer.now held }
-    ensures ref_ptr_value { result.ref_ptr.1 ≡ buffer.entry.ref_ptr.1 + held_at (length buffer.now) held }
+    ensures value { result.now ≡ held_bytes buffer.now held }
+    ensures place { result.ref_ptr.1 ≡ buffer.entry.ref_ptr.1 + held_at (length buffer.now) held }
 {
     let end = numbers::at_most(held.end, buffer.len());
     let at = numbers::at_most(held.at, end);

@@ -7,5 +7,5 @@ returns g c = record {
   ready = c.ready-held.ensures;
   pending = c.with_room-pending.result;
   roomy = c.with_room-pending.ensures;
-  runs = rw c.part.ensures.result_value at c.run_first.ensures;
+  runs = rw c.part.ensures.value at c.run_first.ensures;
 }

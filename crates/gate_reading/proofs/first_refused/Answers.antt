@@ -19,8 +19,8 @@ loop-i-init c = let a = c.args in
 
 pub returns-then-refusal-ne-ACCEPTED : goal.returns-then-refusal-ne-ACCEPTED
 returns-then-refusal-ne-ACCEPTED c = record {
-  upper_bound = c.loop-i.invariant;
-  fact = λ l z. c.if-refusal-ne-ACCEPTED.true (same_number c.gate_refusal-refusal.ensures ∙ z);
+  first = c.loop-i.invariant;
+  refused = λ l z. c.if-refusal-ne-ACCEPTED.true (same_number c.gate_refusal-refusal.ensures ∙ z);
 }
 
 pub loop-i-preserved : goal.loop-i-preserved
@@ -36,6 +36,6 @@ loop-i-preserved c = let called = c in
 
 pub returns : goal.returns
 returns c = record {
-  upper_bound = c.loop-i.invariant;
-  fact = λ l. absurd (omega arith);
+  first = c.loop-i.invariant;
+  refused = λ l. absurd (omega arith);
 }

@@ -22,7 +22,7 @@ returns-then-i-n c = let found = c.first_refused-i in
     let i : ℕ = found.result in
     let rest : List ℕ = spread (slice i a.n a.kept.now) in
     let e : 0 ≡ a.n - i = omega arith in
-    sym (rules-none (gate_profile_with a.distance) (bits_with a.distance i) rest) ∙ ap (rules_refusal (gate_profile_with a.distance) (bits_with a.distance i) rest) e ∙ found.ensures.upper_bound.1
+    sym (rules-none (gate_profile_with a.distance) (bits_with a.distance i) rest) ∙ ap (rules_refusal (gate_profile_with a.distance) (bits_with a.distance i) rest) e ∙ found.ensures.first.1
 
 -- the place lies within the gate
 place-small : (c : After-gate_refusal-refusal) → c.gate_refusal-refusal.result.place < gate_bits c.args.distance
@@ -36,8 +36,8 @@ returns c = let called = c in
     let i : ℕ = found.result in
     let l : i < a.n = omega arith in
     ap (λ (p : ℕ). moved_by p called.gate_refusal-refusal.result) c.bits_of.ensures.0
-    ∙ rules-stop a.kept.now i a.n l (omega arith) a.distance (bits_with a.distance i) (omega arith) called.gate_refusal-refusal.result called.gate_refusal-refusal.ensures (λ z. found.ensures.fact l (sym (same_number called.gate_refusal-refusal.ensures) ∙ z))
-    ∙ found.ensures.upper_bound.1
+    ∙ rules-stop a.kept.now i a.n l (omega arith) a.distance (bits_with a.distance i) (omega arith) called.gate_refusal-refusal.result called.gate_refusal-refusal.ensures (λ z. found.ensures.refused l (sym (same_number called.gate_refusal-refusal.ensures) ∙ z))
+    ∙ found.ensures.first.1
 
 pub overflow_add-result : goal.overflow_add-result
 overflow_add-result c = omega (arith, place-small (goal.at.overflow_add-result c).After-gate_refusal-refusal)

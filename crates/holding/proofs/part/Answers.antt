@@ -12,6 +12,6 @@ returns c =
     let a = c.args in
     let end = c.at_most-end.ensures in
     let at = c.at_most-at.ensures in record {
-      result_value = stretch_within a.buffer.now a.held.at a.held.end _ _ end at;
-      ref_ptr_value = omega (arith, at ∙ ap (min a.held.at) end);
+      value = stretch_within a.buffer.now a.held.at a.held.end _ _ end at;
+      place = omega (arith, at ∙ ap (min a.held.at) end);
     }

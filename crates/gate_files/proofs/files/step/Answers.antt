@@ -5,5 +5,5 @@ pub returns : goal.returns
 returns g c = record {
   held = c.ready-held.result;
   ready = c.ready-held.ensures;
-  moves = rw c.part.ensures.result_value at c.move_first.ensures;
+  moves = rw c.part.ensures.value at c.move_first.ensures;
 }

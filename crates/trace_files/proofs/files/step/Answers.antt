@@ -7,5 +7,5 @@ pub returns : goal.returns
 returns g c = record {
   held = c.ready-held.result;
   ready = c.ready-held.ensures;
-  judges = c.judge_first.ensures ∙ ap (judged_first _ _) c.part.ensures.result_value;
+  judges = c.judge_first.ensures ∙ ap (judged_first _ _) c.part.ensures.value;
 }
