@@ -80,9 +80,9 @@ module _ (s : List ℕ) (lent : Lent s) (i at : ℕ) (h : i ≤ row_count) (lo :
   size : length numbered ≡ session_bytes
   size = numbered_changes.size ∙ lent.size
 
-  kept-is : row_kept s i at ≡ row_copied numbered i (row_offset i) (at + 1)
+  kept_is : row_kept s i at ≡ row_copied numbered i (row_offset i) (at + 1)
   unfolding row_kept numbered
-  kept-is = refl
+  kept_is = refl
 
   copy_changes : Changes numbered (row_copied numbered i (row_offset i) (at + 1)) (at + 1) row_bytes
   copy_changes =
@@ -94,16 +94,16 @@ module _ (s : List ℕ) (lent : Lent s) (i at : ℕ) (h : i ≤ row_count) (lo :
   -- only those bytes change
   pub row_kept_changes : Changes s (row_kept s i at) at kept_row_bytes
   row_kept_changes =
-      rw kept-is
+      rw kept_is
       (next (widen numbered_changes at kept_row_bytes (omega arith) (omega arith)) (widen copy_changes at kept_row_bytes (omega arith) (omega arith)))
 
   number-kept : number_at 1 (row_kept s i at) at ≡ i
   unfolding numbered
-  number-kept = rw kept-is (number-stays copy_changes 1 at (inl (omega arith)) ∙ number-back 1 s at i (omega (arith, lent.size)) (omega arith))
+  number-kept = rw kept_is (number-stays copy_changes 1 at (inl (omega arith)) ∙ number-back 1 s at i (omega (arith, lent.size)) (omega arith))
 
   train-kept : i < row_count → row_at (row_kept s i at) (at + 1) ≡ row_in (view_of s) i
   train-kept l =
-      ap (λ (t : List ℕ). row_at t (at + 1)) (kept-is ∙ row_copied_lem numbered i (row_offset i) (at + 1) l)
+      ap (λ (t : List ℕ). row_at t (at + 1)) (kept_is ∙ row_copied_lem numbered i (row_offset i) (at + 1) l)
       ∙ copied-row numbered (row_offset i) (at + 1) (omega (arith, size)) (omega (arith, size))
       ∙ row_stays numbered_changes (row_offset i) (inl (omega arith))
       ∙ sym (view-row s i l)

@@ -84,9 +84,9 @@ run-back book slot n mark old size holds =
         marked-run once slot n old (suc k) (omega (arith, length_marked book slot n mark)) (in_book k l) a b ∙ sym (holds k l a b)
 
 -- UNDOING WHAT WAS SAVED GIVES THE VIEW BACK
-pub undo-save : (v : View) (e : Effect) → length v.book ≡ last_slot → RunHolds v e → undone (saved v e) (applied v e) ≡ v
+pub undo_save : (v : View) (e : Effect) → length v.book ≡ last_slot → RunHolds v e → undone (saved v e) (applied v e) ≡ v
 unfolding saved applied
-undo-save v e size holds =
+undo_save v e size holds =
     let rows = rows_back v.rows e.changed.row e.also.row e.changed.train e.also.train in
     let book =
     run-back v.book e.start.0 e.slots (mark_for e.taken) (mark_for (not e.taken)) size

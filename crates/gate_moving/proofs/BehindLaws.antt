@@ -37,7 +37,7 @@ module _ (from : Form) (s : List ℕ) (n : ℕ) (two : 2 ≤ n) (whole : length_
   packet = refusal-front f (omega arith) s n two whole enough (gate_bytes * count_of f s) ∙ ap (λ (k : ℕ). read_refusal f front (gate_bytes * k)) count
 
   entries : (packet_refusal from s).number ≡ 0 → entries_of f s ≡ entries_of f front
-  entries e = entries_front f (omega arith) s n two whole enough (accepted f s (gate_bytes * count_of f s) e).length-right
+  entries e = entries_front f (omega arith) s n two whole enough (accepted f s (gate_bytes * count_of f s) e).length_right
 
   judged-front : judged_refusal from s ≡ judged_refusal from front
   unfolding judged_refusal
@@ -52,14 +52,14 @@ module _ (from : Form) (s : List ℕ) (n : ℕ) (two : 2 ≤ n) (whole : length_
       of (no ne) = sym (or_else-stop _ _ ne) ∙ packet ∙ or_else-stop _ _ (λ z. ne (same_number packet ∙ z))
 
   module _ (o : List ℕ) where
-    refusal-same : move_refusal from s (length o) ≡ move_refusal from front (length o)
+    refusal_same : move_refusal from s (length o) ≡ move_refusal from front (length o)
     unfolding move_refusal
-    refusal-same = λ i. or_else (judged-front i) (room_refusal (bytes_for (bits_with (layout_of (other_form from)).distance (count i))) (length o))
+    refusal_same = λ i. or_else (judged-front i) (room_refusal (bytes_for (bits_with (layout_of (other_form from)).distance (count i))) (length o))
 
     pub answer-front : move_answer from s o ≡ move_answer from front o
     unfolding move_answer
-    answer-front = λ i. unless_refused (refusal-same i).number
-        (moved_with (count i) (sym (length_front s n two whole enough) i) (bytes_for (bits_with (layout_of (other_form from)).distance (count i)))) (not_moved (refusal-same i))
+    answer-front = λ i. unless_refused (refusal_same i).number
+        (moved_with (count i) (sym (length_front s n two whole enough) i) (bytes_for (bits_with (layout_of (other_form from)).distance (count i)))) (not_moved (refusal_same i))
 
     pub into_front : move_into from s o ≡ move_into from front o
     unfolding move_into move_refusal
@@ -68,8 +68,8 @@ module _ (from : Form) (s : List ℕ) (n : ℕ) (two : 2 ≤ n) (whole : length_
         of : Dec ((move_refusal from s (length o)).number ≡ 0) → move_into from s o ≡ move_into from front o
         of (yes z) =
             let e = entries (judged from s (or_else-first _ _ z)).valid in
-            λ i. unless_refused (refusal-same i).number (written (profile_in (other_form from)) (restated from (e i) (count i)) o) o
-        of (no ne) = unless-some _ _ _ ne ∙ sym (unless-some _ _ _ (λ z. ne (same_number refusal-same ∙ z)))
+            λ i. unless_refused (refusal_same i).number (written (profile_in (other_form from)) (restated from (e i) (count i)) o) o
+        of (no ne) = unless-some _ _ _ ne ∙ sym (unless-some _ _ _ (λ z. ne (same_number refusal_same ∙ z)))
 
 pub move_unread : (from : Form) (s more o : List ℕ) → 2 ≤ length s → length_of s ≤ length s
     → (move_answer from (s ++ more) o ≡ move_answer from s o) × (move_into from (s ++ more) o ≡ move_into from s o)

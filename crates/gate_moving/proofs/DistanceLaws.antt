@@ -50,7 +50,7 @@ pub record Goes (from : Form) (a b : ℕ) : Type 0 where
 -- in the other form they are such bytes too, and from there they are the same again
 pub record Returns (from : Form) (a b : ℕ) : Type 0 where
   pub goes : Goes (other_form from) (high from a b) (low from a b)
-  pub same-high : high (other_form from) (high from a b) (low from a b) ≡ a
+  pub same_high : high (other_form from) (high from a b) (low from a b) ≡ a
   pub same_low : low (other_form from) (high from a b) (low from a b) ≡ b
 
 -- a number of two bytes is its high and its low one
@@ -80,7 +80,7 @@ forward a b g =
     let again : (x / 256 % 256 * 256 + x % 256) * 1 / 10 ≡ a * 256 + b = ap (λ (y : ℕ). y * 1 / 10) whole ∙ tens (a * 256 + b) in
     record {
       goes = record { first = omega (arith, g.first, g.second); second = omega arith; says = (ap (λ (y : ℕ). y * 1 % 10) whole ∙ tenfold (a * 256 + b), omega (arith, whole, g.first, g.second)) };
-      same-high = ap (λ (y : ℕ). y / 256 % 256) again ∙ high-of a b (omega (arith, g.first)) g.second;
+      same_high = ap (λ (y : ℕ). y / 256 % 256) again ∙ high-of a b (omega (arith, g.first)) g.second;
       same_low = ap (λ (y : ℕ). y % 256) again ∙ low_of a b g.second;
     }
 
@@ -92,7 +92,7 @@ back a b g =
     let again : (x / 256 % 256 * 256 + x % 256) * 10 / 1 ≡ a * 256 + b = ap (λ (y : ℕ). y * 10 / 1) whole ∙ ones (a * 256 + b) g.says.0 in
     record {
       goes = record { first = omega (arith, g.says.1); second = omega arith; says = (omega arith, omega (arith, whole, g.says.1)) };
-      same-high = ap (λ (y : ℕ). y / 256 % 256) again ∙ high-of a b (omega (arith, g.first)) g.second;
+      same_high = ap (λ (y : ℕ). y / 256 % 256) again ∙ high-of a b (omega (arith, g.first)) g.second;
       same_low = ap (λ (y : ℕ). y % 256) again ∙ low_of a b g.second;
     }
 

@@ -141,4 +141,4 @@ module _ (from : Form) where
         let again : restated to (drop 7 (rest list long ++ more)) n ≡ drop gate_bytes list =
         ap (λ (l : List ℕ). restated to l n) behind
         ∙ restated_again (drop gate_bytes list) (p + gate_bits (layout_of from).distance) n (rw length-drop (omega arith)) (or_else_then _ _ e) (or_else_then _ _ d) in
-        (λ i. r.same-high i ∷ r.same_low i ∷ (front i ++ again i)) ∙ whole_again list long _ _ refl refl
+        (λ i. r.same_high i ∷ r.same_low i ∷ (front i ++ again i)) ∙ whole_again list long _ _ refl refl

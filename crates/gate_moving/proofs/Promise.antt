@@ -102,11 +102,11 @@ one_form form s room valid some =
     head = head_valid form s valid
 
     size : length_of s ≡ bytes_for (bits_with (layout_of form).distance n)
-    size = (accepted (profile_in form) s (gate_bytes * n) valid).length-right ∙ ap bytes_for (bits-read (layout_of form).distance (form_wide form) s)
+    size = (accepted (profile_in form) s (gate_bytes * n) valid).length_right ∙ ap bytes_for (bits-read (layout_of form).distance (form_wide form) s)
 
     few : n ≤ (layout_of (other_form other)).most
     few = subst (λ (f : Form). n ≤ (layout_of f).most) (sym (other-other form))
-        (full form s (omega (arith, (accepted (profile_in form) s (gate_bytes * n) valid).length-right, field_lt s 4 7)))
+        (full form s (omega (arith, (accepted (profile_in form) s (gate_bytes * n) valid).length_right, field_lt s 4 7)))
 
     differs : length_of s ≡ bytes_for (bits_of (profile_in other) s) → ⊥
     differs e = other_length form n some (sym size ∙ e ∙ ap bytes_for (bits-read (layout_of other).distance (form_wide other) s))
@@ -155,13 +155,13 @@ module _ (from : Form) (s o : List ℕ) (e : Moved from s o) where
   long = length_gates from s
 
   size : length_of s ≡ bytes_for (bits_with (layout_of from).distance n)
-  size = (accepted f s (gate_bytes * n) g.valid).length-right ∙ ap bytes_for (bits-read (layout_of from).distance (form_wide from) s)
+  size = (accepted f s (gate_bytes * n) g.valid).length_right ∙ ap bytes_for (bits-read (layout_of from).distance (form_wide from) s)
 
   -- what was written can be moved
   moves_again : Judged to made
   moves_again = record {
     few = subst (λ (form : Form). count_of t made ≤ (layout_of form).most) (sym (other-other from))
-        (subst (λ (k : ℕ). k ≤ (layout_of from).most) (sym counted) (full from s (omega (arith, (accepted f s (gate_bytes * n) g.valid).length-right, field_lt s 4 7))));
+        (subst (λ (k : ℕ). k ≤ (layout_of from).most) (sym counted) (full from s (omega (arith, (accepted f s (gate_bytes * n) g.valid).length_right, field_lt s 4 7))));
     valid = read-accepts t (regular_in to) (layout_of to).most (sayable to) list o (gate_bytes * count_of t made) takes (omega (arith, length_moved from s, counted));
     distances = same_number (λ i. distances_refusal to 16 (says.entries i) (counted i))
         ∙ distances-taken from (entries_of f s) 16 16 n (omega (arith, long)) (listed from s g) g.distances;
@@ -247,9 +247,9 @@ back_says : (distance : ℕ) → GoesBack distance → Says Old (distance * (lay
 unfolding layout_of
 back_says distance goes = (omega (arith, goes.0), omega (arith, goes.1))
 
-back-refused : (s : List ℕ) (room i : ℕ) → Valid New s → i < gates_in New s → (GoesBack (distance_at New s i) → ⊥) → (move_refusal New s room).number ≡ 6
+back_refused : (s : List ℕ) (room i : ℕ) → Valid New s → i < gates_in New s → (GoesBack (distance_at New s i) → ⊥) → (move_refusal New s room).number ≡ 6
 unfolding move_refusal other_form
-back-refused s room i valid l stuck = of (distances-told New s 16 (gates_in New s))
+back_refused s room i valid l stuck = of (distances-told New s 16 (gates_in New s))
   where
     r : Refusal
     r = distances_refusal New 16 (unpack s 16 (times (gates_in New s) (gate_widths (layout_of New).distance))) (gates_in New s)
@@ -280,9 +280,9 @@ below_six (at_count n p long) e = omega arith
 below_six (at_entry n w in-it) e = omega arith
 below_six (at_padding n w in-it) e = omega arith
 
-back-stuck : (s : List ℕ) (room : ℕ) → (move_refusal New s room).number ≡ 6 → Valid New s × FirstStuck s (move_refusal New s room).place
+back_stuck : (s : List ℕ) (room : ℕ) → (move_refusal New s room).number ≡ 6 → Valid New s × FirstStuck s (move_refusal New s room).place
 unfolding move_refusal judged_refusal
-back-stuck s room =
+back_stuck s room =
     along Six _ _
     (λ ne. along Six _ _ (λ x six. absurd (omega (arith, head_few (head-told s gate_type gate_type))))
     (λ z₁. along Six _ _ (λ x. tested Six _ _ (λ e six. absurd (omega arith)) (λ e six. absurd (omega arith)))
@@ -317,8 +317,8 @@ left from s o not = unless-some _ _ _ not
 pub moves : Moves
 moves = record {
   forward_works = forward_works;
-  back-stuck = back-stuck;
-  back-refused = back-refused;
+  back_stuck = back_stuck;
+  back_refused = back_refused;
   back_works = back_works;
   one_form = one_form;
   roomy = roomy;

@@ -43,8 +43,8 @@ pub record Moves : Type 0 where
   -- FORWARD works for every valid old list of at most 28 gates, given room
   pub forward_works : (s : List ℕ) (room : ℕ) → Valid Old s → gates_in Old s ≤ 28 → bytes_for (bits_with 15 (gates_in Old s)) ≤ room → move_refusal Old s room ≡ none
   -- BACK is refused with 6 for a valid new list exactly when a distance is no multiple of 10 or above 5,110, and the place is the first such one
-  pub back-stuck : (s : List ℕ) (room : ℕ) → (move_refusal New s room).number ≡ 6 → Valid New s × FirstStuck s (move_refusal New s room).place
-  pub back-refused : (s : List ℕ) (room i : ℕ) → Valid New s → i < gates_in New s → (GoesBack (distance_at New s i) → ⊥) → (move_refusal New s room).number ≡ 6
+  pub back_stuck : (s : List ℕ) (room : ℕ) → (move_refusal New s room).number ≡ 6 → Valid New s × FirstStuck s (move_refusal New s room).place
+  pub back_refused : (s : List ℕ) (room i : ℕ) → Valid New s → i < gates_in New s → (GoesBack (distance_at New s i) → ⊥) → (move_refusal New s room).number ≡ 6
   -- and works for every other, given room
   pub back_works : (s : List ℕ) (room : ℕ) → Valid New s → ((i : ℕ) → i < gates_in New s → GoesBack (distance_at New s i))
       → bytes_for (bits_with 9 (gates_in New s)) ≤ room → move_refusal New s room ≡ none

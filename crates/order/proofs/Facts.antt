@@ -161,8 +161,8 @@ called loco ticket t e =
     let number = (and-eq-true_iff (not (is_empty t)) (same_loco t.loco loco)).0 inner.0 in
     record {
       live = not-true (is_empty t) number.0;
-      by-loco = number.1;
-      by-ticket = outer.1;
+      by_loco = number.1;
+      by_ticket = outer.1;
     }
 
 -- a loco and a ticket name the train in a row of the register

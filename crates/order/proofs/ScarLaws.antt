@@ -61,12 +61,12 @@ pub names_one : (c : Ticket) (v : View) → InOrder c v → (loco : Loco) (ticke
 names_one c v order loco ticket i j a b =
     order.tickets i j a.live b.live
     (eq-eqb (row_in v i).ticket.0 (row_in v j).ticket.0
-    (eqb-true (row_in v i).ticket.0 ticket.0 a.by-ticket ∙ sym (eqb-true (row_in v j).ticket.0 ticket.0 b.by-ticket)))
+    (eqb-true (row_in v i).ticket.0 ticket.0 a.by_ticket ∙ sym (eqb-true (row_in v j).ticket.0 ticket.0 b.by_ticket)))
 
 -- A TICKET ABOVE THE COUNTER NAMES NO TRAIN: what is issued later was never issued before
 pub above_names_none : (c : Ticket) (v : View) → InOrder c v → (loco : Loco) (ticket : Ticket) → c.0 < ticket.0 → NamesNone loco ticket v
 above_names_none c v order loco ticket above i a =
-    omega (arith, eqb-true (row_in v i).ticket.0 ticket.0 a.by-ticket, (order.trains i a.live).issued.issued)
+    omega (arith, eqb-true (row_in v i).ticket.0 ticket.0 a.by_ticket, (order.trains i a.live).issued.issued)
 
 -- and an operation that names it so is refused
 pub none-refused : (loco : Loco) (ticket : Ticket) (v : View) → NamesNone loco ticket v → (next : ℕ) → name_ground (named_in loco ticket v) next ≡ 0 → ⊥
@@ -76,7 +76,7 @@ none-refused loco ticket v none next e =
 
 -- no change of a train gives it another loco or ticket
 called_same : (loco : Loco) (ticket : Ticket) (u t : Train) → SameTrain u t → Called loco ticket u → Called loco ticket t
-called_same loco ticket u t e a = record { live = live_same e a.live; by-loco = rw (← e.loco) a.by-loco; by-ticket = rw (← e.ticket) a.by-ticket }
+called_same loco ticket u t e a = record { live = live_same e a.live; by_loco = rw (← e.loco) a.by_loco; by_ticket = rw (← e.ticket) a.by_ticket }
 
 none_after : (loco : Loco) (ticket : Ticket) (v : View) (i : ℕ) (u : Train) → length v.rows ≡ row_count → i < row_count
     → (Called loco ticket u → ⊥) → NamesNone loco ticket v → NamesNone loco ticket (row_set v i u v.book)
@@ -90,7 +90,7 @@ unfolding ticket_for
 gone_stays s o c v sound loco ticket before none e =
     after_op (λ (d : Ticket) (w : View). NamesNone loco ticket w) s o c (ticket_for c) v sound.rows
     (record {
-      grant = λ wanted bytes f. none_after loco ticket v (row_for v) _ sound.rows f.row (λ a. omega (arith, eqb-true _ ticket.0 a.by-ticket)) none;
+      grant = λ wanted bytes f. none_after loco ticket v (row_for v) _ sound.rows f.row (λ a. omega (arith, eqb-true _ ticket.0 a.by_ticket)) none;
       release = λ i l live. none_after loco ticket v i blank_train sound.rows l (λ a. true≢false a.live) none;
       deed = λ i l live d. none_after loco ticket v i _ sound.rows l (still i (deed_same d (row_in v i))) none;
       sos = λ grid i j l live m also n.

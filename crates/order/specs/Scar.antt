@@ -9,8 +9,8 @@ use Rattle.order.specs.Sound.{Live, InBook, Has}
 -- a live train has this loco and this ticket
 pub record Called (loco : Loco) (ticket : Ticket) (t : Train) : Type 0 where
   pub live : Live t
-  pub by-loco : same_loco t.loco loco ≡ true
-  pub by-ticket : same_ticket t.ticket ticket ≡ true
+  pub by_loco : same_loco t.loco loco ≡ true
+  pub by_ticket : same_ticket t.ticket ticket ≡ true
 
 -- no row's train has them
 abbrev pub NamesNone : Loco → Ticket → View → Type 0

@@ -110,7 +110,7 @@ module _ (f : Profile) (small : Headers f) (s : List ℕ) (n : ℕ) (two : 2 ≤
         of : Dec ((read_refusal f s (length o)).number ≡ 0) → read_into f s o ≡ read_into f (take n s) o
         of (yes e) =
             λ i. unless_refused (same-refusal i).number
-            (entries_front (accepted f s (length o) e).length-right i ++ drop (f.pieces * sym count-front i) o) o
+            (entries_front (accepted f s (length o) e).length_right i ++ drop (f.pieces * sym count-front i) o) o
         of (no ne) = unless-some _ _ _ ne ∙ sym (unless-some _ _ _ (λ z. ne (same_number same-refusal ∙ z)))
 
 -- ---- the laws

@@ -63,7 +63,7 @@ end-clear s bits bytes room = clear-or_else _ _ (clear-refuse _ _ _)
 -- a read that is not refused
 pub record Accepted (f : Profile) (s : List ℕ) (room : ℕ) : Type 0 where
   pub head : Headed s f.kind f.kind
-  pub length-right : length_of s ≡ bytes_for (bits_of f s)
+  pub length_right : length_of s ≡ bytes_for (bits_of f s)
   pub rules : (rules_refusal f (first_at f) (entries_of f s) (count_of f s)).number ≡ 0
   pub padding : field s (bits_of f s) (padding_for (bits_of f s)) ≡ 0
   pub fits : f.pieces * count_of f s ≤ room
@@ -77,7 +77,7 @@ accepted f s room e =
     let p : field s (bits_of f s) (padding_for (bits_of f s)) ≤ 0 = ltb-false _ _ (refuse-none _ _ _ (or_else-first _ _ end)) in
     record {
       head = headed s f.kind f.kind (or_else-first _ _ shape);
-      length-right = shape_right f.kind s (bits_of f s) shape;
+      length_right = shape_right f.kind s (bits_of f s) shape;
       rules = or_else-first _ _ body;
       padding = omega arith;
       fits = end-room s (bits_of f s) (f.pieces * count_of f s) room end;

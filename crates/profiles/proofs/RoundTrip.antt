@@ -59,7 +59,7 @@ module _ (f : Profile) (reg : Regular f) where
 
     -- so the list alone tells the length
     size-read : (room : ℕ) → Accepted f s room → length_of s ≡ size_for f list n
-    size-read room g = g.length-right ∙ ap bytes_for (sym bits-read)
+    size-read room g = g.length_right ∙ ap bytes_for (sym bits-read)
 
     pub size_of : (room : ℕ) → Accepted f s room → length_of s ≡ size_for f list (entries_in f list)
     size_of room g = size-read room g ∙ ap (size_for f list) (sym (count_entries s))
@@ -83,9 +83,9 @@ module _ (f : Profile) (reg : Regular f) where
       (round_trip o s (length_of s) (packet_widths f (entries_of f s) (count_of f s)) ho hs whole fits g.head.whole)
 
   -- so two accepted sub-packets with the same entries are the same bytes
-  pub one-reading : (s t : List ℕ) (room more : ℕ) → Bytes s → Bytes t
+  pub one_reading : (s t : List ℕ) (room more : ℕ) → Bytes s → Bytes t
       → (read_refusal f s room).number ≡ 0 → (read_refusal f t more).number ≡ 0 → entries_of f s ≡ entries_of f t → take (length_of s) s ≡ take (length_of t) t
-  one-reading s t room more hs ht es et equal =
+  one_reading s t room more hs ht es et equal =
       let g = accepted f s room es in
       let size : length_of s ≡ length_of t =
       size_of s room g ∙ ap (λ (l : List ℕ). size_for f l (entries_in f l)) equal ∙ sym (size_of t more (accepted f t more et)) in
@@ -148,7 +148,7 @@ module _ (f : Profile) (reg : Regular f) where
       let whole : length list % f.pieces ≡ 0 = ap (λ (k : ℕ). k % f.pieces) (length_entries f reg s) ∙ mul-mod_right f.pieces (count_of f s) in
       let right : (list_refusal f list (entries_in f list)).number ≡ 0 = same_number (ap (list_refusal f list) en) ∙ entries_listed s g.rules in
       let size : length_of s ≡ size_for f list (entries_in f list) = size_of f reg s room g in
-      let few : count_of f s ≤ most = full s (omega (arith, g.length-right, field_lt s 4 7)) in
+      let few : count_of f s ≤ most = full s (omega (arith, g.length_right, field_lt s 4 7)) in
       same_number
       (sym
       (not_below 0 (length list % f.pieces) _ _ (omega arith)

@@ -33,7 +33,7 @@ pub record Promised (f : Profile) (most : ℕ) : Type 0 where
       → (read_answer f (write_into f most list o) out ≡ read_with (write_answer f most list o).entries (write_answer f most list o).bytes)
       × (take (length list) (read_into f (write_into f most list o) out) ≡ list)
   -- ONE READING: two accepted sub-packets with the same entries are the same bytes
-  pub one-reading : (s t o u : List ℕ) → AreBytes s → AreBytes t → Reads f s o → Reads f t u → entries_of f s ≡ entries_of f t
+  pub one_reading : (s t o u : List ℕ) → AreBytes s → AreBytes t → Reads f s o → Reads f t u → entries_of f s ≡ entries_of f t
       → take (length_of s) s ≡ take (length_of t) t
   -- WHAT FOLLOWS the sub-packet is not read: neither the answer nor the output hangs on it, whether the read is accepted or refused
   pub unread : (s more o : List ℕ) → 2 ≤ length s → length_of s ≤ length s
@@ -42,6 +42,6 @@ pub record Promised (f : Profile) (most : ℕ) : Type 0 where
   pub runs_past : (s : List ℕ) (room i : ℕ) → (head_refusal s f.kind f.kind).number ≡ 0 → i < count_of f s
       → 8 * length_of s < entry_at f s (first_at f) (suc i) → read_refusal f s room ≡ length_not_for_count
   -- WHAT LIES BEHIND in an output stays: behind the entries that were read, and behind the sub-packet that was written
-  pub behind-read : (s o : List ℕ) → Reads f s o → drop (f.pieces * count_of f s) (read_into f s o) ≡ drop (f.pieces * count_of f s) o
-  pub behind-written : (list o : List ℕ) → AreBytes o → Writes f most list o
+  pub behind_read : (s o : List ℕ) → Reads f s o → drop (f.pieces * count_of f s) (read_into f s o) ≡ drop (f.pieces * count_of f s) o
+  pub behind_written : (list o : List ℕ) → AreBytes o → Writes f most list o
       → drop (size_for f list (entries_in f list)) (write_into f most list o) ≡ drop (size_for f list (entries_in f list)) o

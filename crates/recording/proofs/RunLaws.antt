@@ -80,9 +80,9 @@ module _ (bs held : List ℕ) (before : ℕ) where
       of false n = refl
 
   -- and changes no byte
-  pub refusal-same : ((ran_record bs held before).answer ≡ 0 → ⊥) → bytes_after_record bs held before ≡ bs
+  pub refusal_same : ((ran_record bs held before).answer ≡ 0 → ⊥) → bytes_after_record bs held before ≡ bs
   unfolding ran_record bytes_after_record
-  refusal-same h = of (is_run held before) h
+  refusal_same h = of (is_run held before) h
     where
       of : (b : Bool) → ((ran_if b bs held before).answer ≡ 0 → ⊥) → cond b (bytes_left bs (call_of held)) bs ≡ bs
       of true n = same bs (call_of held) n

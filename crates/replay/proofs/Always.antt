@@ -58,8 +58,8 @@ module _ (R : Rules) (L : Lawful R) (P : ℕ → R.View → Type 0) (lasts : Las
   along_way s c y (stays n) sound fits a = a
   along_way s c y (acts o r w e) sound fits a =
       along_take R P depth next w (save o (ticket_due R o now) v ∷ s.log) (
-        lasts.by-operation o now v w r sound e (along_now R P now v s.log a),
-        subst (λ (u : View). Along R P next u s.log) (sym (L.undo-save o now v w r sound e))
+        lasts.by_operation o now v w r sound e (along_now R P now v s.log a),
+        subst (λ (u : View). Along R P next u s.log) (sym (L.undo_save o now v w r sound e))
             (along_higher R P lasts now next v s.log (issued_up R now next new rises) (issued-fits R now next new fits rises) a),
       )
     where
@@ -100,4 +100,4 @@ module _ {R : Rules} (S : Session R) (L : Lawful R) (K : Kept S) where
   pub sound-after : (b b' : Bytes) (h : History R) → Starts S b → Made S b h b' → Sound (view_in S b')
   sound-after b b' h start made =
       always (λ (c : ℕ) (v : View). Sound v)
-      (record { by-operation = λ o c v w r s e p. L.act-sound o c v w r s e; at_higher = λ c d v up fits p. p }) b b' h start start.sound made
+      (record { by_operation = λ o c v w r s e p. L.act_sound o c v w r s e; at_higher = λ c d v up fits p. p }) b b' h start start.sound made

@@ -83,9 +83,9 @@ module _ {R : Rules} (S : Session R) (L : Lawful R) (K : Kept S) where
       unfolding step
       one-call =
           record {
-            refusal-same = λ m e. K.refusal-same b c m b' (subst (λ (x : Answer Reply). Did b c x b') e did);
-            op-answered = λ o e. did_step.answer ∙ ap (λ (x : Call Op). (step R (state_in b) x).1) e;
-            back-answered = λ k e. did_step.answer ∙ ap (λ (x : Call Op). (step R (state_in b) x).1) e ∙ ap (back_answer R k) h.entries;
+            refusal_same = λ m e. K.refusal_same b c m b' (subst (λ (x : Answer Reply). Did b c x b') e did);
+            op_answered = λ o e. did_step.answer ∙ ap (λ (x : Call Op). (step R (state_in b) x).1) e;
+            back_answered = λ k e. did_step.answer ∙ ap (λ (x : Call Op). (step R (state_in b) x).1) e ∙ ap (back_answer R k) h.entries;
             never_falls = issued_up R (counter_in S b) (counter_in S b') (issue R (came_to c a) []) issued-call;
             ticket_new = issued-call;
           }
@@ -122,10 +122,10 @@ module _ {R : Rules} (S : Session R) (L : Lawful R) (K : Kept S) where
       record {
         replayed = held_replay R L (view_in S b) start.sound (standing h) (view_in S b') (state_in b').log p.held;
         tickets_rise = p.issued;
-        tickets-once = λ i j l k. issued-once R (counter_in S b) (counter_in S b') (tickets R h) i j p.issued l k;
-        counter-fits = issued-fits R (counter_in S b) (counter_in S b') (tickets R h) start.fits p.issued;
-        kept-is = p.entries;
-        kept-few = rw p.entries p.few;
+        tickets_once = λ i j l k. issued-once R (counter_in S b) (counter_in S b') (tickets R h) i j p.issued l k;
+        counter_fits = issued-fits R (counter_in S b) (counter_in S b') (tickets R h) start.fits p.issued;
+        kept_is = p.entries;
+        kept_few = rw p.entries p.few;
         next = λ c a b'' did. one-call b start (standing h) (tickets R h) (kept h) b' b'' c a p did;
       }
     where

@@ -32,7 +32,7 @@ module _ (R : Rules) where
   machine_kept =
       record {
         steps = λ s c a s' ready sound did. record { ready = tt; state = did.0; answer = did.1 };
-        refusal-same = λ s c n s' did. did.0 ∙ refused-same R s c n (sym did.1);
+        refusal_same = λ s c n s' did. did.0 ∙ refused-same R s c n (sym did.1);
       }
 
 -- ── one number, which is set, or set to a new ticket: the next one, or one that is named ──
@@ -115,10 +115,10 @@ fits (grant_as n) c v w r e g = let f = given_is c n r w e in (f.above, f.fits)
 lawful : Lawful rules
 lawful =
     record {
-      act-sound = λ o c v w r s e. tt;
-      undo-save = λ o c v w r s e. refl;
+      act_sound = λ o c v w r s e. tt;
+      undo_save = λ o c v w r s e. refl;
       act_again = λ o c v w r s e. again o c v w r e;
-      ticket-fits = λ o c v w r s e g. fits o c v w r e g;
+      ticket_fits = λ o c v w r s e g. fits o c v w r e g;
     }
 
 example_demand3 : (s s' : State ℕ ℕ) (h : History rules) → Starts (machine rules) s → Made (machine rules) s h s' → Demand3 (machine rules) s h s'

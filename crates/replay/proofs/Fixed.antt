@@ -30,5 +30,5 @@ module _ {R : Rules} (S : Session R) where
   demand3_fixes b b' b'' h p q = (
     replay_fixed R (standing h) (view_in S b) (view_in S b') (view_in S b'') p.replayed q.replayed,
     issued_fixed R (counter_in S b) (counter_in S b') (counter_in S b'') (tickets R h) p.tickets_rise q.tickets_rise,
-    p.kept-is ∙ sym q.kept-is,
+    p.kept_is ∙ sym q.kept_is,
   )

@@ -205,7 +205,7 @@ module _ {R : Rules} (S : Session R) (L : Lawful R) (K : Kept S) where
       let one = plays_one y c.1 b x m.0 ready sound (cc) c.0 c.2 m.1 in
       let rest =
       plays d g (p ++ y ∷ []) (issue R (entry y) ts) w e m.0 b'' one.ready
-      (subst Sound (sym one.view) (L.act-sound y.operation (counter_in S b) (view_in S b) c.1 y.reply sound c.2)) (cc)
+      (subst Sound (sym one.view) (L.act_sound y.operation (counter_in S b) (view_in S b) c.1 y.reply sound c.2)) (cc)
       (subst₂ (λ (n : ℕ) (u : View). Counted R n u d e w) (sym one.counter) (sym one.view) c.3) m.2 in
       record {
         view = rest.view;

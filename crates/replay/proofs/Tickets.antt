@@ -70,13 +70,13 @@ module _ (R : Rules) where
 
 module _ (R : Rules) (L : Lawful R) where
   open R use {View, Op, Reply, Entry, grants, Sound}
-  open L use {ticket-fits}
+  open L use {ticket_fits}
 
   issued_acts : (s : State View Entry) (o : Op) (r : Reply) (w : View) (b : Bool) → Sound s.view → verdict R o s.counter s.view ≡ accept r w → grants o ≡ b
       → Issued R s.counter (issue R (came_to (op o) (took (ticket_due R o s.counter) r)) []) (counter_after R o s.counter)
   unfolding came_to issue ticket_due counter_after
   issued_acts s o r w false sound e g = rw g refl
-  issued_acts s o r w true sound e g = let f = rw g at (ticket-fits o s.counter s.view w r sound e g) in rw g (f.0, f.1, refl)
+  issued_acts s o r w true sound e g = let f = rw g at (ticket_fits o s.counter s.view w r sound e g) in rw g (f.0, f.1, refl)
 
   pub issued_way : (s : State View Entry) (c : Call Op) (y : State View Entry × Answer Reply) → Way R s c y → Sound s.view
       → Issued R s.counter (issue R (came_to c y.1) []) y.0.counter

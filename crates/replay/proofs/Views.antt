@@ -72,7 +72,7 @@ module _ (R : Rules) where
 
 module _ (R : Rules) (L : Lawful R) where
   open R use {View, Op, Reply, Entry, act, save, undo, Sound}
-  open L use {act-sound, undo-save, act_again}
+  open L use {act_sound, undo_save, act_again}
 
   -- an operation that led on leads on when it is played again
   led_again : (x : Done Op Reply) (u w : View) → Sound u → Led R x u w → act x.operation (just_below x.ticket) x.ticket u ≡ accept x.reply w
@@ -81,12 +81,12 @@ module _ (R : Rules) (L : Lawful R) where
 
   led_sound : (v w : View) (d : List (Done Op Reply)) → Sound v → LedBy R v d w → Sound w
   led_sound v w [] s p = subst Sound p s
-  led_sound v w (x ∷ d) s p = led_sound p.0 w d (act-sound x.operation p.1.counter v p.0 x.reply s p.1.accepts) p.2
+  led_sound v w (x ∷ d) s p = led_sound p.0 w d (act_sound x.operation p.1.counter v p.0 x.reply s p.1.accepts) p.2
 
   pub led_replay : (v w : View) (d : List (Done Op Reply)) → Sound v → LedBy R v d w → Replay R v d w
   led_replay v w [] s p = p
   led_replay v w (x ∷ d) s p =
-      (p.0, led_again x v p.0 s p.1, led_replay p.0 w d (act-sound x.operation p.1.counter v p.0 x.reply s p.1.accepts) p.2)
+      (p.0, led_again x v p.0 s p.1, led_replay p.0 w d (act_sound x.operation p.1.counter v p.0 x.reply s p.1.accepts) p.2)
 
   module _ (start : View) (start-sound : Sound start) where
     pub held_replay : (d : List (Done Op Reply)) (v : View) (es : List Entry) → Held R start d v es → Replay R start d v
@@ -113,7 +113,7 @@ module _ (R : Rules) (L : Lawful R) where
         back_one =
             ap (λ (y : Entry). undo y v) (sym h.5)
             ∙ ap (λ (t : ℕ). undo (save h.1.operation t h.2) v) h.4.due
-            ∙ undo-save h.1.operation h.4.counter h.2 v h.1.reply (held-sound h.0 h.2 es h.6) h.4.accepts
+            ∙ undo_save h.1.operation h.4.counter h.2 v h.1.reply (held-sound h.0 h.2 es h.6) h.4.accepts
 
     -- ── one call ──
 

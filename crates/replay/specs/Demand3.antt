@@ -173,11 +173,11 @@ module _ {R : Rules} (S : Session R) where
   -- What holds of one call where n entries are kept.
   pub record OneCall (n : ℕ) (b : Bytes) (c : Call Op) (a : Answer Reply) (b' : Bytes) : Type 0 where
     -- a refused call leaves every byte as it was
-    pub refusal-same : (m : ℕ) → a ≡ refused m → b' ≡ b
+    pub refusal_same : (m : ℕ) → a ≡ refused m → b' ≡ b
     -- an operation is answered as the rules say
-    pub op-answered : (o : Op) → c ≡ op o → a ≡ op_answer (ticket_due R o (counter_in b)) (verdict R o (counter_in b) (view_in b))
+    pub op_answered : (o : Op) → c ≡ op o → a ≡ op_answer (ticket_due R o (counter_in b)) (verdict R o (counter_in b) (view_in b))
     -- a step back of k is accepted exactly when k is at most n
-    pub back-answered : (k : ℕ) → c ≡ back k → a ≡ back_answer R k n
+    pub back_answered : (k : ℕ) → c ≡ back k → a ≡ back_answer R k n
     -- the counter never falls
     pub never_falls : counter_in b ≤ counter_in b'
     -- a ticket issued is above the counter before the call, and is the counter after it; where none is issued, the counter stays
@@ -190,12 +190,12 @@ module _ {R : Rules} (S : Session R) where
     -- the tickets issued rise from the counter at the start to the counter now
     pub tickets_rise : Issued R (counter_in b) (tickets R h) (counter_in b')
     -- so no ticket is issued twice, also where its grant was stepped back
-    pub tickets-once : (i j : ℕ) → i < j → j < length (tickets R h) → get_or (tickets R h) i 0 ≢ get_or (tickets R h) j 0
+    pub tickets_once : (i j : ℕ) → i < j → j < length (tickets R h) → get_or (tickets R h) i 0 ≢ get_or (tickets R h) j 0
     -- and none is above the last one
-    pub counter-fits : counter_in b' ≤ last_ticket
+    pub counter_fits : counter_in b' ≤ last_ticket
     -- the entries kept are as many as the entry rule says
-    pub kept-is : kept_in b' ≡ kept h
+    pub kept_is : kept_in b' ≡ kept h
     -- never more than `depth`
-    pub kept-few : kept_in b' ≤ depth
+    pub kept_few : kept_in b' ≤ depth
     -- and of whatever call comes next (so of every call, since h is any history)
     pub next : (c : Call Op) (a : Answer Reply) (b'' : Bytes) → Did b' c a b'' → OneCall (kept h) b' c a b''

@@ -19,4 +19,4 @@ module _ {R : Rules} (S : Session R) where
     -- on ready bytes with a sound view each call does what the machine does
     pub steps : (b : Bytes) (c : Call Op) (a : Answer Reply) (b' : Bytes) → Ready b → Sound (view_in S b) → Did b c a b' → Steps b c a b'
     -- a refused call leaves the bytes as they were, whatever bytes they are
-    pub refusal-same : (b : Bytes) (c : Call Op) (n : ℕ) (b' : Bytes) → Did b c (refused n) b' → b' ≡ b
+    pub refusal_same : (b : Bytes) (c : Call Op) (n : ℕ) (b' : Bytes) → Did b c (refused n) b' → b' ≡ b

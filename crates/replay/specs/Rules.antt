@@ -57,12 +57,12 @@ module _ (R : Rules) where
   -- What must be proved of the rules: of an operation that is accepted where the counter stands at c and the view v is sound.
   pub record Lawful : Type 0 where
     -- it leads to a sound view
-    pub act-sound : (o : Op) (c : ℕ) (v w : View) (r : Reply) → Sound v → verdict o c v ≡ accept r w → Sound w
+    pub act_sound : (o : Op) (c : ℕ) (v w : View) (r : Reply) → Sound v → verdict o c v ≡ accept r w → Sound w
     -- its entry leads from the view after it back to the view before it
-    pub undo-save : (o : Op) (c : ℕ) (v w : View) (r : Reply) → Sound v → verdict o c v ≡ accept r w → undo (save o (ticket_due o c) v) w ≡ v
+    pub undo_save : (o : Op) (c : ℕ) (v w : View) (r : Reply) → Sound v → verdict o c v ≡ accept r w → undo (save o (ticket_due o c) v) w ≡ v
     -- it is accepted alike where the counter stands just below its ticket
     pub act_again : (o : Op) (c : ℕ) (v w : View) (r : Reply) → Sound v → verdict o c v ≡ accept r w
         → act o (just_below (ticket_due o c)) (ticket_due o c) v ≡ accept r w
     -- if it is a grant, its ticket is above the counter, and not above the last ticket
-    pub ticket-fits : (o : Op) (c : ℕ) (v w : View) (r : Reply) → Sound v → verdict o c v ≡ accept r w → grants o ≡ true
+    pub ticket_fits : (o : Op) (c : ℕ) (v w : View) (r : Reply) → Sound v → verdict o c v ≡ accept r w → grants o ≡ true
         → (c < ticket_due o c) × (ticket_due o c ≤ last_ticket)

@@ -39,7 +39,7 @@ use Rattle.session.specs.Answers.{answer_to, bytes_after}
 use Rattle.settings.specs.Usual.{usual}
 use Rattle.session.proofs.AfterLaws.{no_ground, counter-is, after_lent, after-view, after-counter, after-log, refused-bytes}
 use Rattle.stepback.specs.Back.{back_after}
-use Rattle.stepback.proofs.BackLaws.{refused-back, of-session, back-refused, back-taken}
+use Rattle.stepback.proofs.BackLaws.{refused-back, of-session, back_refused, back-taken}
 use Rattle.standing.specs.Said.{Reply, reply_of, ticket_said, said}
 use Rattle.standing.specs.Standing.{outcome, rules, answered, bytes_left, session}
 use Rattle.standing.proofs.RulesLaws.{outcome-accepted, outcome-refused, outcome_alike, due-grant, due-next, due_again}
@@ -158,7 +158,7 @@ module _ (bs : List ℕ) (lent : Lent bs) (k : ℕ) where
   back_far : kept_of bs < k → Does bs (back k)
   unfolding step answered bytes_left back_words
   back_far far =
-      let b = back-refused bs k (is-session bs lent) far in
+      let b = back_refused bs k (is-session bs lent) far in
       let t : leb k (length (log_of bs)) ≡ false = lt-leb k (length (log_of bs)) (rw (log-kept bs) far) in
       record {
         ready = subst Lent b.1 lent;
@@ -212,5 +212,5 @@ kept =
     record {
       steps = λ bs c a after lent sound did.
           subst₂ (λ (x : Words Reply) (y : List ℕ). Steps session bs c x y) (sym did.0) (sym did.1) (steps_at bs c lent);
-      refusal-same = λ bs c n after did. did.1 ∙ refused-left bs c (refuses c (answered bs c) n did.0);
+      refusal_same = λ bs c n after did. did.1 ∙ refused-left bs c (refuses c (answered bs c) n did.0);
     }

@@ -69,7 +69,7 @@ module _ (s : Settings) where
   pub order_lasts : Lasts (rules s) (λ (c : ℕ) (v : View). InOrder (ticket_of c) v)
   unfolding verdict
   order_lasts = record {
-    by-operation = λ o c v w r sound e order. in_order_after o c v w r e order;
+    by_operation = λ o c v w r sound e order. in_order_after o c v w r e order;
     at_higher = λ c d v l m order. order_higher (ticket_of c) (ticket_of d) v l order;
   }
 

@@ -20,7 +20,7 @@ use Rattle.order.specs.Sound.{Sound}
 use Rattle.order.proofs.RuleLaws.{accepted-plain, accepted_exactly, grant_below, Alike, again, grant_again}
 use Rattle.order.proofs.SoundLaws.{sound-kept, run-held}
 use Rattle.entries.specs.Entry.{saved, undone}
-use Rattle.entries.proofs.SaveLaws.{undo-save}
+use Rattle.entries.proofs.SaveLaws.{undo_save}
 use Rattle.standing.specs.Said.{Reply, reply_of}
 use Rattle.standing.specs.Standing.{outcome, rules}
 
@@ -120,7 +120,7 @@ module _ (s : Settings) (o : Op) (c : ℕ) (v w : View) (r : Reply) (sound : Sou
   unfolding effect
   undoes =
       (λ i. undone (saved v (saved-is i)) (sym view-is i))
-      ∙ undo-save v effect sound.book
+      ∙ undo_save v effect sound.book
       (λ slot range low high.
       let r = one-to last_slot slot.0 range in
       run-held s o (ticket_of c) (ticket_of (ticket_due (rules s) o c)) v sound ground slot.0 (record { low = r.0; high = r.1 }) (record { low = low; high = high }))
@@ -137,8 +137,8 @@ pub lawful : (s : Settings) → Lawful (rules s)
 unfolding verdict
 lawful s =
     record {
-      act-sound = λ o c v w r sound e. acts_sound s o c v w r sound e;
-      undo-save = λ o c v w r sound e. undoes s o c v w r sound e;
+      act_sound = λ o c v w r sound e. acts_sound s o c v w r sound e;
+      undo_save = λ o c v w r sound e. undoes s o c v w r sound e;
       act_again = λ o c v w r sound e. acts_again s o c v w r sound e;
-      ticket-fits = λ o c v w r sound e g. ticket_is s o c v w r sound e g;
+      ticket_fits = λ o c v w r sound e g. ticket_is s o c v w r sound e g;
     }

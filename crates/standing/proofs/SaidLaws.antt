@@ -18,7 +18,7 @@ use Rattle.rules.specs.Ruling.{accepted_with, refused_with}
 use Rattle.rules.specs.declared.ruling.Answer.{Answer}
 use Rattle.session.proofs.OperationLaws.{answer-plain}
 use Rattle.stepback.specs.Back.{back_answer}
-use Rattle.stepback.proofs.BackLaws.{of_none, back-refused, back-taken}
+use Rattle.stepback.proofs.BackLaws.{of_none, back_refused, back-taken}
 use Rattle.standing.specs.Said.{reply_of, ticket_said, said, answer_by}
 use Rattle.standing.specs.Standing.{answered}
 
@@ -71,7 +71,7 @@ whole_back : (bs : List ℕ) (k : ℕ) → Whole k (back_answer bs k)
 whole_back bs k = of (is_session bs) refl (lt_or_le (kept_of bs) k)
   where
     of : (b : Bool) → is_session bs ≡ b → (kept_of bs < k) ⊎ (k ≤ kept_of bs) → Whole k (back_answer bs k)
-    of true e (inl far) = subst (Whole k) (back-refused bs k e far).0 (whole-refused k too_far_back (λ z. omega arith))
+    of true e (inl far) = subst (Whole k) (back_refused bs k e far).0 (whole-refused k too_far_back (λ z. omega arith))
     of true e (inr near) = subst (Whole k) (back-taken bs k e near).0 (whole-taken k (kept_of bs - k))
     of false e d = subst (Whole k) (sym (elsewhere bs k e)) (whole-refused k wrong_length (λ z. omega arith))
 

@@ -51,9 +51,9 @@ module _ (bs : List ℕ) (k : ℕ) where
       go false = sym (λ i. cond (e i) (stepped_by k bs) bs)
 
   module _ (e : is_session bs ≡ true) where
-    pub back-refused : kept_of bs < k → (refused_with too_far_back ≡ back_answer bs k) × (bs ≡ back_after bs k)
+    pub back_refused : kept_of bs < k → (refused_with too_far_back ≡ back_answer bs k) × (bs ≡ back_after bs k)
     unfolding back_answer
-    back-refused far = (far_answer far ∙ sym (of-session bs _ e), back_far far)
+    back_refused far = (far_answer far ∙ sym (of-session bs _ e), back_far far)
 
     pub back-taken : k ≤ kept_of bs → (accepted_with (kept_of bs - k) 0 0 ≡ back_answer bs k) × (stepped_in k bs ≡ back_after bs k)
     unfolding back_answer

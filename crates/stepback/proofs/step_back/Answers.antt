@@ -5,7 +5,7 @@ use Prim.Native.Nat.{ℕ, ◌-◌}
 use Rattle.replay.specs.Demand3.{depth}
 use Rattle.rules.specs.Ruling.{accepted_with}
 use Rattle.stepback.specs.Back.{back_answer}
-use Rattle.stepback.proofs.BackLaws.{of_none, back_elsewhere, back-refused, back-taken}
+use Rattle.stepback.proofs.BackLaws.{of_none, back_elsewhere, back_refused, back-taken}
 use Rattle.stepback.proofs.step_back.Goals as goal
 
 pub returns-then-not-is_session : goal.returns-then-not-is_session
@@ -22,7 +22,7 @@ pub returns-then-kept-steps : goal.returns-then-kept-steps
 returns-then-kept-steps c =
     let a = c.args in
     let whole = sym c.is_session.ensures ∙ c.if-not-is_session.false in
-    let w = back-refused a.session.now a.k whole (omega (arith, c.kept-kept.ensures, c.if-kept-steps.true)) in
+    let w = back_refused a.session.now a.k whole (omega (arith, c.kept-kept.ensures, c.if-kept-steps.true)) in
     record {
       value = c.refused-then-kept-steps.ensures ∙ w.0;
       session_after = w.1;
