@@ -14,8 +14,6 @@ use Rattle.gate_moving.proofs.put_gates.Goals.{After-gate_bits-p}
 use Rattle.gate_moving.proofs.put_gates.Invariants.{all}
 use Rattle.gate_moving.proofs.put_gates.Goals as goal
 
--- n gates put from bit p on
-
 pub loop-i-init : goal.loop-i-init
 loop-i-init c = let a = c.args in
     (omega arith, omega arith, refl, ap (all a.from a.out.now 16 (slice 0 a.n a.kept.now)) (omega arith))

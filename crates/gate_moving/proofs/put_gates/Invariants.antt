@@ -12,6 +12,7 @@ use Rattle.gate_reading.specs.Steps.{spread}
 use Rattle.gate_moving.specs.Moving.{restated}
 use Rattle.gate_moving.proofs.put_gates.Given as goal
 
+-- n gates put from bit p on
 abbrev pub all : Form → List ℕ → ℕ → List ℕ → ℕ → List ℕ
 all from o p gates n = pack o p (times n (gate_widths (layout_of (other_form from)).distance)) (restated from (spread gates) n)
 

@@ -12,8 +12,6 @@ use Rattle.gate_reading.proofs.ReadingLaws.{load_more}
 use Rattle.gate_reading.proofs.load_gates.Invariants.{left}
 use Rattle.gate_reading.proofs.load_gates.Goals as goal
 
--- m gates from bit p on
-
 pub loop-i-init : goal.loop-i-init
 loop-i-init c = let a = c.args in
     let e : a.n - 0 ≡ a.n = omega arith in

@@ -8,6 +8,7 @@ use Rattle.numbers.specs.Pieces.{times, unpack}
 use Rattle.gates.specs.Gates.{gate_bits}
 use Rattle.gate_reading.proofs.load_gates.Given as goal
 
+-- m gates from bit p on
 abbrev pub left : ℕ → List ℕ → ℕ → ℕ → List ℕ
 left distance s p m = unpack s p (times m (gate_bits distance ∷ []))
 

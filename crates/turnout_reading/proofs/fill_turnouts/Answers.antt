@@ -12,8 +12,6 @@ use Rattle.turnout_reading.proofs.ReadingLaws.{turnout-digits, fill_more}
 use Rattle.turnout_reading.proofs.fill_turnouts.Invariants.{left}
 use Rattle.turnout_reading.proofs.fill_turnouts.Goals as goal
 
--- the bytes of m turnouts from bit p on
-
 pub loop-i-init : goal.loop-i-init
 loop-i-init c = let a = c.args in
     let e : a.n - 0 ≡ a.n = omega arith in

@@ -9,6 +9,7 @@ use Rattle.profiles.specs.Profiles.{widths_at}
 use Rattle.turnouts.specs.Turnouts.{turnout_profile, turnout_bytes}
 use Rattle.turnout_reading.proofs.fill_turnouts.Given as goal
 
+-- the bytes of m turnouts from bit p on
 abbrev pub left : List ℕ → ℕ → ℕ → List ℕ
 left s p m = unpack s p (widths_at turnout_profile s p m)
 

@@ -8,8 +8,6 @@ use Rattle.turnout_reading.proofs.ReadingLaws.{rules-stop, rules_go}
 use Rattle.turnout_reading.proofs.rules_refusal.Invariants.{the_rules}
 use Rattle.turnout_reading.proofs.rules_refusal.Goals as goal
 
--- the rules on m turnouts from bit p on
-
 pub loop-i-init : goal.loop-i-init
 loop-i-init c = let a = c.args in
     let e : a.n - 0 ≡ a.n = omega arith in

@@ -8,6 +8,7 @@ use Rattle.profiles.specs.Profiles.{widths_at, rules_refusal}
 use Rattle.turnouts.specs.Turnouts.{turnout_profile}
 use Rattle.turnout_reading.proofs.rules_refusal.Given as goal
 
+-- the rules on m turnouts from bit p on
 abbrev pub the_rules : List ℕ → ℕ → ℕ → Refusal
 the_rules s p m = rules_refusal turnout_profile p (unpack s p (widths_at turnout_profile s p m)) m
 

@@ -14,8 +14,6 @@ use Rattle.turnouts.proofs.TurnoutLaws.{regular}
 use Rattle.turnout_writing.proofs.put_turnouts.Invariants.{putting}
 use Rattle.turnout_writing.proofs.put_turnouts.Goals as goal
 
--- m turnouts of a list, put from bit p on
-
 pub loop-i-init : goal.loop-i-init
 loop-i-init c = let a = c.args in
     let e : a.n - 0 ≡ a.n = omega arith in

@@ -8,6 +8,7 @@ use Rattle.profiles.specs.Profiles.{widths_of}
 use Rattle.turnouts.specs.Turnouts.{turnout_profile, turnout_bytes}
 use Rattle.turnout_writing.proofs.put_turnouts.Given as goal
 
+-- m turnouts of a list, put from bit p on
 abbrev pub putting : List ℕ → ℕ → List ℕ → ℕ → List ℕ
 putting out p list m = pack out p (widths_of turnout_profile list m) list
 

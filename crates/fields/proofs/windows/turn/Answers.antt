@@ -10,8 +10,6 @@ use Rattle.fields.proofs.TurnedLaws.{turned-suc, more}
 use Rattle.fields.proofs.windows.turn.Invariants.{whole}
 use Rattle.fields.proofs.windows.turn.Goals as goal
 
--- y, and n bytes of x turned behind it
-
 -- a turn of the loop, of plain numbers
 step : (n y x : ℕ) → whole n (y * 256 + x % 256) (x / 256) ≡ whole (suc n) y x
 step n y x =

@@ -4,6 +4,7 @@ use mathlib.Core.Path.{◌≡◌}
 use Rattle.fields.specs.Turned.{turned}
 use Rattle.fields.proofs.windows.turn.Given as goal
 
+-- y, and n bytes of x turned behind it
 abbrev pub whole : ℕ → ℕ → ℕ → ℕ
 whole n y x = y * 2 ^ (8 * n) + turned n x
 
