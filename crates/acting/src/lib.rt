@@ -15,12 +15,12 @@ use rules::{named, refusals};
 use trains::record::Train;
 
 // The answer for a train's end: 1 and the effective end, or zeros for none.
-fn end_answer(end: Location) -> Answer
+fn end_answer(end: Option<u32>) -> Answer
     ensures { result ≡ end_answer end }
 {
     match end {
-        Location::Nowhere => Answer::accepted(0, 0, 0),
-        Location::At(location) => Answer::accepted(1, location, 0),
+        None => Answer::accepted(0, 0, 0),
+        Some(location) => Answer::accepted(1, location, 0),
     }
 }
 

@@ -1,11 +1,10 @@
 -- What a session tells of itself in numbers, and that bytes of another length tell nothing.
 use mathlib.Core.{Bool.cond, List.List, List.[], List.◌∷◌}
-use Rattle.std.specs.Prelude.{ℕ}
-use Rattle.kinds.specs.{Ranges.none, declared.ranges.Location.Location}
-use Rattle.kinds.specs.declared.ranges.Location.TheVariants.{Nowhere, At}
-use Rattle.trains.specs.{Record.order_at, declared.record.Limit.Limit, declared.record.Limit.TheVariants.Bare, declared.record.Limit.TheVariants.To}
+use Rattle.std.specs.Prelude.{ℕ, Option, None, Some}
+use Rattle.kinds.specs.{Ranges.none}
+use Rattle.trains.specs.{Record.order_at}
 use Rattle.trains.specs.{declared.record.Order.Order, declared.record.Position.Position}
-use Rattle.trains.specs.{declared.record.Position.TheVariants.Unknown, declared.record.Position.TheVariants.Between, declared.record.Train.Train}
+use Rattle.trains.specs.{declared.record.Train.Train}
 use Rattle.rules.specs.{Refusals.wrong_length, Ruling.accepted_with, View.row_in, declared.ruling.Answer.Answer}
 use Rattle.store.specs.{Layout.is_session, Stands.view_of}
 use Rattle.stepback.specs.Back.{of_session}
@@ -16,24 +15,24 @@ unfoldable pub number_answer : List ℕ → ℕ → Answer
 number_answer bs n = of_session bs (accepted_with n 0 0)
 
 -- a location, or none
-unfoldable pub location_number : Location → ℕ
-location_number Nowhere = none
-location_number (At location) = location
+unfoldable pub location_number : Option ℕ → ℕ
+location_number None = none
+location_number (Some location) = location
 
 -- the front of a position, or none
-unfoldable pub front_number : Position → ℕ
-front_number Unknown = none
-front_number (Between front rear) = front
+unfoldable pub front_number : Option Position → ℕ
+front_number None = none
+front_number (Some p) = p.front
 
 -- the rear of a position, or none
-unfoldable pub rear_number : Position → ℕ
-rear_number Unknown = none
-rear_number (Between front rear) = rear
+unfoldable pub rear_number : Option Position → ℕ
+rear_number None = none
+rear_number (Some p) = p.rear
 
 -- an order's limit, or none where it is bare
-unfoldable pub limit_number : Limit → ℕ
-limit_number Bare = none
-limit_number (To location) = location
+unfoldable pub limit_number : Option ℕ → ℕ
+limit_number None = none
+limit_number (Some location) = location
 
 -- an order: the other train's ticket and the limit
 abbrev pub order_told : Order → OrderTold

@@ -32,12 +32,12 @@ pub struct TrainAnswer {
     pub orders: [OrderTold; 4],
 }
 
-fn location_number(location: Location) -> u32
+fn location_number(location: Option<u32>) -> u32
     ensures { result ≡ location_number location }
 {
     match location {
-        Location::Nowhere => ranges::NONE,
-        Location::At(metres) => metres,
+        None => ranges::NONE,
+        Some(metres) => metres,
     }
 }
 
@@ -59,12 +59,12 @@ fn rear_number(position: Position) -> u32
     }
 }
 
-fn limit_number(limit: Limit) -> u32
+fn limit_number(limit: Option<u32>) -> u32
     ensures { result ≡ limit_number limit }
 {
     match limit {
-        Limit::Bare => ranges::NONE,
-        Limit::To(location) => location,
+        None => ranges::NONE,
+        Some(location) => location,
     }
 }
 

@@ -1,4 +1,5 @@
 -- Laws of the search for a run of free slots, a turn at a time.
+use Rattle.std.specs.Prelude.{None, Some}
 use mathlib.Core.Path.{◌≡◌, refl, sym, ap, ◌∙◌}
 use mathlib.Core.Bool.{true, false, not}
 use mathlib.Core.List.{List}
@@ -12,7 +13,6 @@ use Rattle.kinds.specs.Kinds.{last_slot}
 use Rattle.kinds.specs.Ranges.{one_to}
 use Rattle.kinds.proofs.FoundLaws.{first_hit, first_miss, first-end}
 use Rattle.rules.specs.View.{is_taken}
-use Rattle.rules.specs.declared.slots.FreeRun.TheVariants.{NoRun, From}
 use Rattle.rules.specs.Slots.{slot_of, is_free, is_run, run_from, lowest_run}
 
 -- a slot of the book is free exactly when it is not taken
@@ -69,10 +69,10 @@ pub passed-more : (book : List ℕ) (n s t : ℕ) → t ≡ s → s ≤ last_slo
 unfolding Passed
 passed-more book n s t e h q r = rw e (r ∙ ap run_from (first_miss (λ start. is_run book start n) s (suc last_slot) (omega arith) q))
 
-pub passed-all : (book : List ℕ) (n s : ℕ) → last_slot < s → Passed book n s → NoRun ≡ lowest_run book n
+pub passed-all : (book : List ℕ) (n s : ℕ) → last_slot < s → Passed book n s → None ≡ lowest_run book n
 unfolding Passed run_from
 passed-all book n s h r = sym (r ∙ ap run_from (first-end (λ start. is_run book start n) s (suc last_slot) (omega arith)))
 
-pub passed_hit : (book : List ℕ) (n s t : ℕ) → t ≡ s → s ≤ last_slot → is_run book s n ≡ true → Passed book n s → From (slot_of t) ≡ lowest_run book n
+pub passed_hit : (book : List ℕ) (n s t : ℕ) → t ≡ s → s ≤ last_slot → is_run book s n ≡ true → Passed book n s → Some (slot_of t) ≡ lowest_run book n
 unfolding Passed run_from
 passed_hit book n s t e h q r = rw e (sym (r ∙ ap run_from (first_hit (λ start. is_run book start n) s (suc last_slot) (omega arith) q)))

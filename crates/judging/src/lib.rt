@@ -15,7 +15,7 @@ use rules::deeds::Deed;
 use rules::registering::grant;
 use rules::ruling::{Answer, Ruling};
 use rules::settings::Settings;
-use rules::slots::{FreeRun, is_request, slots_for};
+use rules::slots::{Option<Slot>, is_request, slots_for};
 use rules::{refusals, registering};
 use store::view;
 
@@ -30,10 +30,10 @@ pub fn request(s: &[u8], settings: Settings, loco: Loco, bytes: u32) -> Ruling
     if !is_request(settings.carries, bytes) {
         return Ruling::refused(counter, refusals::BAD_BYTES);
     }
-    if view::find_loco(s, loco).is_there() {
+    if view::find_loco(s, loco).is_some() {
         return Ruling::refused(counter, refusals::ALREADY_REGISTERED);
     }
-    let Found::Index(row) = view::find_empty(s) else {
+    let Some(row) = view::find_empty(s) else {
         return Ruling::refused(counter, refusals::REGISTER_FULL);
     };
     if !Ticket(LAST_TICKET).is_above(counter) {
@@ -41,8 +41,8 @@ pub fn request(s: &[u8], settings: Settings, loco: Loco, bytes: u32) -> Ruling
     }
     let wanted = slots_for(settings.carries, bytes);
     match slots::lowest_run(s, wanted) {
-        FreeRun::NoRun => Ruling::refused(counter, refusals::NO_FREE_RUN),
-        FreeRun::From(start) => grant(loco, wanted, Ticket(counter.0 + 1), row, start),
+        None => Ruling::refused(counter, refusals::NO_FREE_RUN),
+        Some(start) => grant(loco, wanted, Ticket(counter.0 + 1), row, start),
     }
 }
 

@@ -11,7 +11,7 @@ use store::view;
 pub(crate) fn find(s: &[u8], loco: Loco, ticket: Ticket) -> Named
     ensures { result ≡ named_in loco ticket (view_of s.now) }
 {
-    let Found::Index(row) = view::find(s, loco, ticket) else {
+    let Some(row) = view::find(s, loco, ticket) else {
         return Named::nobody(loco);
     };
     let train = view::train(s, row);

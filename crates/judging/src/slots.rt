@@ -4,7 +4,7 @@ ghost use Rattle.rules.specs.Slots.{slot_of, is_free, lowest_run};
 ghost use Rattle.store.specs.Stands.{book_of};
 
 use kinds::Slot;
-use rules::slots::FreeRun;
+use rules::slots::Option<Slot>;
 use store::view;
 
 const LAST_SLOT: usize = kinds::LAST_SLOT as usize;
@@ -23,13 +23,13 @@ fn is_free(s: &[u8], slot: usize) -> bool
 }
 
 // The lowest start at which n slots side by side are free.
-pub(crate) fn lowest_run(s: &[u8], n: u32) -> FreeRun
+pub(crate) fn lowest_run(s: &[u8], n: u32) -> Option<Slot>
     ensures { result ≡ lowest_run (book_of s.now) n }
 {
     let mut start: usize = 1;
     'starts: loop {
         if start > LAST_SLOT {
-            break FreeRun::NoRun;
+            break None;
         }
         let end = start + n as usize;
         let mut slot = start;
@@ -40,6 +40,6 @@ pub(crate) fn lowest_run(s: &[u8], n: u32) -> FreeRun
             }
             slot += 1;
         }
-        break FreeRun::From(Slot(start as u32));
+        break Some(Slot(start as u32));
     }
 }

@@ -1,4 +1,5 @@
 -- Laws of `first`: what a search that goes up from i finds, and what it means.
+use Rattle.std.specs.Prelude.{Option, None, Some}
 use Prim.Native.Nat.{ℕ, zero, suc, ◌+◌, ◌-◌, ◌<◌, ◌≤◌}
 use mathlib.Core.Bool.{Bool, true, false, cond}
 use mathlib.Core.Logic.{⊎_elim}
@@ -6,8 +7,6 @@ use mathlib.Core.Path.{◌≡◌, refl}
 use native.Mathlib.Nat.{eq-or-lt_of_le}
 use native.Mathlib.Numerals.{add-one}
 use native.Mathlib.Omega.{arith}
-use Rattle.kinds.specs.declared.found.Found.{Found}
-use Rattle.kinds.specs.declared.found.Found.TheVariants.{Nothing, Index}
 use Rattle.kinds.specs.Found.{first}
 
 -- ---- for a loop that goes from i up to e
@@ -15,7 +14,7 @@ use Rattle.kinds.specs.Found.{first}
 less : (i e : ℕ) → i < e → e - i ≡ suc (e - (i + 1))
 less i e h = omega arith
 
-pub first_hit : (p : ℕ → Bool) (i e : ℕ) → i < e → p i ≡ true → first p i (e - i) ≡ Index i
+pub first_hit : (p : ℕ → Bool) (i e : ℕ) → i < e → p i ≡ true → first p i (e - i) ≡ Some i
 unfolding first
 first_hit p i e h q = rw (less i e h, q)
 
@@ -23,30 +22,30 @@ pub first_miss : (p : ℕ → Bool) (i e : ℕ) → i < e → p i ≡ false → 
 unfolding first
 first_miss p i e h q = rw (less i e h, q, add-one i)
 
-pub first-end : (p : ℕ → Bool) (i e : ℕ) → e ≤ i → first p i (e - i) ≡ Nothing
+pub first-end : (p : ℕ → Bool) (i e : ℕ) → e ≤ i → first p i (e - i) ≡ None
 unfolding first
 first-end p i e h = let z : e - i ≡ 0 = omega arith in rw z
 
 -- ---- what is found is within the run
 
-below_go : (p : ℕ → Bool) (i n j : ℕ) (b : Bool) → (first p (suc i) n ≡ Index j → j < suc i + n)
-    → cond b (Index i) (first p (suc i) n) ≡ Index j → j < i + suc n
+below_go : (p : ℕ → Bool) (i n j : ℕ) (b : Bool) → (first p (suc i) n ≡ Some j → j < suc i + n)
+    → cond b (Some i) (first p (suc i) n) ≡ Some j → j < i + suc n
 below_go p i n j true r e = let z : i ≡ j = cc in omega arith
 below_go p i n j false r e = omega (arith, r e)
 
-pub first_below : (p : ℕ → Bool) (i n j : ℕ) → first p i n ≡ Index j → j < i + n
+pub first_below : (p : ℕ → Bool) (i n j : ℕ) → first p i n ≡ Some j → j < i + n
 unfolding first
 first_below p i zero j e = let z : ◌≡◌ {A = ℕ} 0 1 = cc in absurd (omega arith)
 first_below p i (suc n) j e = below_go p i n j (p i) (first_below p (suc i) n j) e
 
 -- ---- what is found passes the test
 
-true_go : (p : ℕ → Bool) (i n j : ℕ) (b : Bool) → p i ≡ b → (first p (suc i) n ≡ Index j → p j ≡ true)
-    → cond b (Index i) (first p (suc i) n) ≡ Index j → p j ≡ true
+true_go : (p : ℕ → Bool) (i n j : ℕ) (b : Bool) → p i ≡ b → (first p (suc i) n ≡ Some j → p j ≡ true)
+    → cond b (Some i) (first p (suc i) n) ≡ Some j → p j ≡ true
 true_go p i n j true q r e = let z : i ≡ j = cc in rw (← z) q
 true_go p i n j false q r e = r e
 
-pub first-true : (p : ℕ → Bool) (i n j : ℕ) → first p i n ≡ Index j → p j ≡ true
+pub first-true : (p : ℕ → Bool) (i n j : ℕ) → first p i n ≡ Some j → p j ≡ true
 unfolding first
 first-true p i zero j e = let z : ◌≡◌ {A = ℕ} 0 1 = cc in absurd (omega arith)
 first-true p i (suc n) j e = true_go p i n j (p i) refl (first-true p (suc i) n j) e
@@ -54,13 +53,13 @@ first-true p i (suc n) j e = true_go p i n j (p i) refl (first-true p (suc i) n 
 -- ---- no number of the run before it does; where nothing is found, none of the run does
 
 -- k is before what is found
-abbrev pub Before : ℕ → Found → Type 0
-Before k (Index j) = k < j
-Before k Nothing = Unit {0}
+abbrev pub Before : ℕ → Option ℕ → Type 0
+Before k (Some j) = k < j
+Before k None = Unit {0}
 
 before_go : (p : ℕ → Bool) (i n k : ℕ) (b : Bool) → p i ≡ b → i ≤ k
     → (suc i ≤ k → Before k (first p (suc i) n) → p k ≡ false)
-    → Before k (cond b (Index i) (first p (suc i) n)) → p k ≡ false
+    → Before k (cond b (Some i) (first p (suc i) n)) → p k ≡ false
 before_go p i n k true q l r h = absurd (omega arith)
 before_go p i n k false q l r h =
     ⊎_elim (λ e. rw (← e) q) (λ m. r (omega arith) h) (eq-or-lt_of_le l)
@@ -72,11 +71,11 @@ first-before p i (suc n) k l u h = before_go p i n k (p i) refl l (λ m. first-b
 
 -- ---- where no number of the run passes, nothing is found
 
-none_go : (p : ℕ → Bool) (i n : ℕ) (b : Bool) → b ≡ false → first p (suc i) n ≡ Nothing
-    → cond b (Index i) (first p (suc i) n) ≡ Nothing
+none_go : (p : ℕ → Bool) (i n : ℕ) (b : Bool) → b ≡ false → first p (suc i) n ≡ None
+    → cond b (Some i) (first p (suc i) n) ≡ None
 none_go p i n b q r = rw q r
 
-pub first-none : (p : ℕ → Bool) (i n : ℕ) → ((k : ℕ) → i ≤ k → k < i + n → p k ≡ false) → first p i n ≡ Nothing
+pub first-none : (p : ℕ → Bool) (i n : ℕ) → ((k : ℕ) → i ≤ k → k < i + n → p k ≡ false) → first p i n ≡ None
 unfolding first
 first-none p i zero h = refl
 first-none p i (suc n) h =

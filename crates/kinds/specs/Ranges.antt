@@ -1,7 +1,5 @@
 -- The range rules that operations ask for, and the number that stands for no location.
-use Rattle.std.specs.Prelude.{Bool, cond, ◌&&◌, ◌||◌, ℕ, eqb, leb}
-use Rattle.kinds.specs.declared.ranges.Location.{Location}
-use Rattle.kinds.specs.declared.ranges.Location.TheVariants.{Nowhere, At}
+use Rattle.std.specs.Prelude.{Bool, cond, ◌&&◌, ◌||◌, ℕ, eqb, leb, Option, None, Some}
 
 abbrev pub last_location : ℕ  -- the highest location, in metres
 last_location = 524287
@@ -33,5 +31,5 @@ unfoldable pub is_none_or_location : ℕ → Bool
 is_none_or_location number = eqb number none || is_location number
 
 -- the location that a number at a boundary stands for
-unfoldable pub location_from : ℕ → Location
-location_from number = cond (eqb number none) Nowhere (At number)
+unfoldable pub location_from : ℕ → Option ℕ
+location_from number = cond (eqb number none) None (Some number)

@@ -1,12 +1,11 @@
-// The three kinds of number that name something in a session. Each is compared by its own `is`, tickets by `is_above` too, so that a loco
-// number or a slot can't reach a ticket comparison, and each knows its range.
+// The three kinds of number that name something in a session. Each is a type of its own, so that a loco number or a slot can't reach a ticket
+// comparison, and each knows its range.
 #![tactic(auto)]
 
-pub mod found;
 pub mod ranges;
 
 ghost use Rattle.std.specs.Prelude.{◌≡◌};
-ghost use Rattle.kinds.specs.Kinds.{no_loco, same_loco, same_ticket, is_above, loco_in_range, ticket_in_range, slot_in_range};
+ghost use Rattle.kinds.specs.Kinds.{no_loco, same_loco, loco_in_range, ticket_in_range, slot_in_range};
 
 pub const LAST_LOCO: u32 = 131070;
 
@@ -14,22 +13,17 @@ pub const LAST_TICKET: u32 = 65535;
 
 pub const LAST_SLOT: u32 = 44;
 
-#[derive(Clone, Copy)]
+#[derive(Clone, Copy, PartialEq, Eq)]
 pub struct Loco(pub u32);
 
-#[derive(Clone, Copy)]
+// A later grant has the greater ticket.
+#[derive(Clone, Copy, PartialEq, Eq, PartialOrd, Ord)]
 pub struct Ticket(pub u32);
 
-#[derive(Clone, Copy)]
+#[derive(Clone, Copy, PartialEq, Eq)]
 pub struct Slot(pub u32);
 
 impl Loco {
-    pub fn is(self, other: Loco) -> bool
-        ensures { result ≡ same_loco self other }
-    {
-        self.0 == other.0
-    }
-
     // Is this the loco number of an empty row, which names no train?
     pub fn is_none(self) -> bool
         ensures { result ≡ same_loco self no_loco }
@@ -45,19 +39,6 @@ impl Loco {
 }
 
 impl Ticket {
-    pub fn is(self, other: Ticket) -> bool
-        ensures { result ≡ same_ticket self other }
-    {
-        self.0 == other.0
-    }
-
-    // Is this the higher ticket?
-    pub fn is_above(self, other: Ticket) -> bool
-        ensures { result ≡ is_above self other }
-    {
-        self.0 > other.0
-    }
-
     pub fn in_range(self) -> bool
         ensures { result ≡ ticket_in_range self }
     {

@@ -2,19 +2,13 @@
 ghost use Rattle.std.specs.Prelude.{◌≡◌};
 ghost use Rattle.kinds.specs.Ranges.{one_to, is_location, is_position, is_grid, is_none_or_location, location_from};
 
-// A location that may be missing.
-#[derive(Clone, Copy)]
-pub enum Location {
-    Nowhere,
-    At(u32),
-}
-
 pub const LAST_LOCATION: u32 = 524287;
 
 pub const GRIDS: u32 = 4;
 // What a boundary carries where there is no authority, or no danger location.
 pub const NONE: u32 = 4294967295;
 
+#[tactic(auto, unfolding(crate::specs::Ranges::one_to))]
 pub fn is_one_to(last: u32, n: u32) -> bool
     ensures { result ≡ one_to last n }
 {
@@ -28,6 +22,7 @@ pub fn is_location(x: u32) -> bool
 }
 
 // Both ends are locations, for the rear is not above the front.
+#[tactic(auto, unfolding(crate::specs::Ranges::is_position))]
 pub fn is_position(front: u32, rear: u32) -> bool
     ensures { result ≡ is_position front rear }
 {
@@ -41,18 +36,17 @@ pub fn is_grid(grid: u32) -> bool
 }
 
 // May the number stand for an authority's end or a danger location?
+#[tactic(auto, unfolding(crate::specs::Ranges::is_none_or_location))]
 pub fn is_none_or_location(number: u32) -> bool
     ensures { result ≡ is_none_or_location number }
 {
     number == NONE || is_location(number)
 }
 
-pub fn location_from(number: u32) -> Location
+// The location that a number at a boundary stands for, where it is one.
+#[tactic(auto, unfolding(crate::specs::Ranges::location_from))]
+pub fn location_from(number: u32) -> Option<u32>
     ensures { result ≡ location_from number }
 {
-    if number == NONE {
-        Location::Nowhere
-    } else {
-        Location::At(number)
-    }
+    if number == NONE { None } else { Some(number) }
 }

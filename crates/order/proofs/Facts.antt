@@ -1,4 +1,5 @@
 -- THE RULES, WALKED ONCE: what it says of an operation and a view that there is no ground to refuse it. Every other law cites these facts.
+use Rattle.std.specs.Prelude.{Option, None, Some, is_some}
 use mathlib.Core.Path.{◌≡◌, refl}
 use mathlib.Core.Bool.{Bool, true, false, not, ◌&&◌, true≢false, false≢true, and-eq-true_iff}
 use mathlib.Core.List.{List}
@@ -7,12 +8,10 @@ use native.Mathlib.Nat.{le-div_iff_mul-le, div-lt_iff_lt-mul, one-mul, eq-or-lt_
 use native.Mathlib.Omega.{arith}
 use mathlib.Core.Logic.{⊎_elim}
 use borrow.Author.Tests.{ltb-true, eqb-true, eqb-false, not-true, not-false}
-use Rattle.kinds.specs.Found.{first, is_found}
+use Rattle.kinds.specs.Found.{first}
 use Rattle.kinds.specs.Kinds.{last_loco, last_slot, last_ticket, slot_in_range, same_loco, same_ticket, ticket_in_range}
 use Rattle.trains.specs.Record.{is_empty}
 use Rattle.trains.specs.Sought.{row_count, holds_loco, is_sought}
-use Rattle.kinds.specs.declared.found.Found.{Found}
-use Rattle.kinds.specs.declared.found.Found.TheVariants.{Nothing, Index}
 use Rattle.kinds.specs.declared.Loco.{Loco}
 use Rattle.kinds.specs.declared.Slot.{Slot}
 use Rattle.kinds.specs.declared.Ticket.{Ticket}
@@ -24,7 +23,7 @@ use Rattle.kinds.proofs.RangeLaws.{one-to}
 use Rattle.rules.specs.Named.{in_row, named_in, name_ground}
 use Rattle.rules.specs.Raising.{sos_ground}
 use Rattle.rules.specs.Registering.{request_ground, row_of_found}
-use Rattle.rules.specs.Slots.{most_slots, is_request, slots_for, slot_of, is_free, is_run, run_from, lowest_run, is_run_found, start_of}
+use Rattle.rules.specs.Slots.{most_slots, is_request, slots_for, slot_of, is_free, is_run, run_from, lowest_run, start_of}
 use Rattle.rules.specs.View.{View, row_in, mark_of, is_taken, sought_in, find_in}
 use Rattle.rules.specs.declared.named.Named.{Named}
 use Rattle.rules.proofs.ChainLaws.{passed, passed-unless, both}
@@ -33,18 +32,17 @@ use Rattle.order.specs.Sound.{InBook, InRun}
 
 -- ---- searches
 
-there : (f : Found) → is_found f ≡ true → f ≡ Index (row_of_found f)
-unfolding is_found row_of_found
-there Nothing e = absurd (false≢true e)
-there (Index i) e = refl
+there : (f : Option ℕ) → is_some f ≡ true → f ≡ Some (row_of_found f)
+unfolding row_of_found
+there None e = absurd (false≢true e)
+there (Some i) e = refl
 
-nowhere : (f : Found) (k : ℕ) → is_found f ≡ false → Before k f
-unfolding is_found
-nowhere Nothing k e = tt
-nowhere (Index i) k e = absurd (true≢false e)
+nowhere : (f : Option ℕ) (k : ℕ) → is_some f ≡ false → Before k f
+nowhere None k e = tt
+nowhere (Some i) k e = absurd (true≢false e)
 
 -- a row that is found is one of the 24, and holds what is sought
-pub found_in_lem : (v : View) (sought : Sought) (row : ℕ) → find_in v sought ≡ Index row → (row < row_count) × (is_sought sought (row_in v row) ≡ true)
+pub found_in_lem : (v : View) (sought : Sought) (row : ℕ) → find_in v sought ≡ Some row → (row < row_count) × (is_sought sought (row_in v row) ≡ true)
 unfolding find_in sought_in
 found_in_lem v sought row e = (
   omega (arith, first_below (sought_in v sought) 0 row_count row e),
@@ -52,7 +50,7 @@ found_in_lem v sought row e = (
 )
 
 -- where nothing is found, none of the 24 holds it
-pub found_nowhere : (v : View) (sought : Sought) → is_found (find_in v sought) ≡ false → (i : ℕ) → i < row_count → is_sought sought (row_in v i) ≡ false
+pub found_nowhere : (v : View) (sought : Sought) → is_some (find_in v sought) ≡ false → (i : ℕ) → i < row_count → is_sought sought (row_in v i) ≡ false
 unfolding find_in sought_in
 found_nowhere v sought e i l =
     first-before (sought_in v sought) 0 row_count i (omega arith) (omega arith) (nowhere (first (sought_in v sought) 0 row_count) i e)
@@ -85,12 +83,12 @@ free-run marks start (suc n) e slot r =
     (λ l. free-run marks (suc start) n both.1 slot (record { low = l; high = omega (arith, r.high) })) (eq-or-lt_of_le r.low)
 
 -- the run from the start that was found
-from_start : (f : Found) → is_run_found (run_from f) ≡ true → f ≡ Index (start_of (run_from f)).0
-unfolding run_from is_run_found start_of
-from_start Nothing e = absurd (false≢true e)
-from_start (Index start) e = refl
+from_start : (f : Option ℕ) → is_some (run_from f) ≡ true → f ≡ Some (start_of (run_from f)).0
+unfolding run_from start_of
+from_start None e = absurd (false≢true e)
+from_start (Some start) e = refl
 
-lowest-free : (marks : List ℕ) (n : ℕ) → is_run_found (lowest_run marks n) ≡ true → (slot : ℕ) → InRun (start_of (lowest_run marks n)).0 n slot → Free marks slot
+lowest-free : (marks : List ℕ) (n : ℕ) → is_some (lowest_run marks n) ≡ true → (slot : ℕ) → InRun (start_of (lowest_run marks n)).0 n slot → Free marks slot
 unfolding lowest_run
 lowest-free marks n e =
     free-run marks _ n (first-true (λ start. is_run marks start n) 1 last_slot _ (from_start (first (λ start. is_run marks start n) 1 last_slot) e))
@@ -171,11 +169,11 @@ pub record Names (loco : Loco) (ticket : Ticket) (v : View) (n : Named) : Type 0
   pub train : n.train ≡ row_in v n.row
   pub has : Called loco ticket n.train
 
-named_row : (loco : Loco) (ticket : Ticket) (v : View) (f : Found) → find_in v (Pair loco ticket) ≡ f → (in_row loco v f).live ≡ true
+named_row : (loco : Loco) (ticket : Ticket) (v : View) (f : Option ℕ) → find_in v (Pair loco ticket) ≡ f → (in_row loco v f).live ≡ true
     → Names loco ticket v (in_row loco v f)
 unfolding in_row
-named_row loco ticket v Nothing e l = absurd (false≢true l)
-named_row loco ticket v (Index row) e l =
+named_row loco ticket v None e l = absurd (false≢true l)
+named_row loco ticket v (Some row) e l =
     let hit = found_in_lem v (Pair loco ticket) row e in
     record { row = hit.0; train = refl; has = called loco ticket (row_in v row) hit.1 }
 

@@ -1,4 +1,5 @@
 -- A train whose fields are in their ranges keeps them there, whatever is done to it: a deed, or an order put by an SOS.
+use Rattle.std.specs.Prelude.{Option, None, Some}
 use mathlib.Core.Path.{◌≡◌, refl, sym, ap, ◌∙◌}
 use mathlib.Core.Bool.{Bool, true, false, cond, ◌||◌, true≢false}
 use mathlib.Core.List.{List}
@@ -19,15 +20,9 @@ use Rattle.kinds.specs.Kinds.{same_ticket}
 use Rattle.trains.specs.Orders.{stands_under, place_under, order_place, room, set_at, order_put, order_gone}
 use Rattle.kinds.specs.Ranges.{none, last_location, is_location, is_none_or_location, location_from}
 use Rattle.trains.specs.Record.{no_ticket, no_order, order_count, order_at}
-use Rattle.kinds.specs.declared.found.Found.{Found}
-use Rattle.kinds.specs.declared.found.Found.TheVariants.{Nothing, Index}
 use Rattle.kinds.specs.declared.Ticket.{Ticket}
-use Rattle.trains.specs.declared.record.Limit.{Limit}
-use Rattle.trains.specs.declared.record.Limit.TheVariants.{Bare}
-use Rattle.kinds.specs.declared.ranges.Location.TheVariants.{Nowhere, At}
 use Rattle.trains.specs.declared.record.Order.{Order}
 use Rattle.trains.specs.declared.record.Position.{Position}
-use Rattle.trains.specs.declared.record.Position.TheVariants.{Unknown, Between}
 use Rattle.trains.specs.declared.record.Track.{Track}
 use Rattle.trains.specs.declared.record.Train.{Train}
 use Rattle.kinds.proofs.FoundLaws.{first-true, first-before}
@@ -63,10 +58,10 @@ module _ (c own : Ticket) (os : List Order) (fits : OrdersFit c own os) where
         limits = set_each (λ (k : ℕ) (x : Order). LimitFits x.limit) no_order os i o h limit (λ k n. fits.limits k);
       }
 
-  set_found : (f : Found) (o : Order) → ((i : ℕ) → f ≡ Index i → OrdersFit c own (set os i o)) → OrdersFit c own (set_at os f o)
+  set_found : (f : Option ℕ) (o : Order) → ((i : ℕ) → f ≡ Some i → OrdersFit c own (set os i o)) → OrdersFit c own (set_at os f o)
   unfolding set_at
-  set_found Nothing o h = fits
-  set_found (Index i) o h = h i refl
+  set_found None o h = fits
+  set_found (Some i) o h = h i refl
 
   -- an order cleared
   orders_gone : (x : Ticket) → 1 ≤ own.0 → OrdersFit c own (order_gone os x)
@@ -77,23 +72,23 @@ module _ (c own : Ticket) (os : List Order) (fits : OrdersFit c own os) where
       (ne_eqb 0 own.0 (λ q. omega arith)) (λ z. refl) tt (λ k n z. absurd (true≢false z)))
 
   -- the place that an order gets is the only one under its ticket
-  none_under : (x : Ticket) → 1 ≤ x.0 → place_under os x ≡ Nothing → (k : ℕ) → same_ticket (order_at os k).other x ≡ true → ⊥
+  none_under : (x : Ticket) → 1 ≤ x.0 → place_under os x ≡ None → (k : ℕ) → same_ticket (order_at os k).other x ≡ true → ⊥
   unfolding place_under stands_under
   none_under x some e k s =
       by_cases (dec_lt k order_count)
       (λ l. true≢false (sym s ∙ first-before (stands_under os x) 0 order_count k (omega arith) (omega arith) (rw e tt)))
       (λ n. omega (arith, eqb-true (order_at os k).other.0 x.0 s, ap (λ (o : Order). o.other.0) (get_or-eq_default os no_order {n = k} (omega (arith, fits.four, n)))))
 
-  stands_under_lem : (x : Ticket) (j : ℕ) → place_under os x ≡ Index j → same_ticket (order_at os j).other x ≡ true
+  stands_under_lem : (x : Ticket) (j : ℕ) → place_under os x ≡ Some j → same_ticket (order_at os j).other x ≡ true
   unfolding place_under stands_under
   stands_under_lem x j q = first-true (stands_under os x) 0 order_count j q
 
-  only_under : (x : Ticket) (i : ℕ) → 1 ≤ x.0 → room os x ≡ Index i → (k : ℕ) → (k ≡ i → ⊥) → same_ticket x (order_at os k).other ≡ true → ⊥
+  only_under : (x : Ticket) (i : ℕ) → 1 ≤ x.0 → room os x ≡ Some i → (k : ℕ) → (k ≡ i → ⊥) → same_ticket x (order_at os k).other ≡ true → ⊥
   only_under x i some e k n s = go (place_under os x) refl
     where
-      go : (f : Found) → place_under os x ≡ f → ⊥
-      go Nothing q = none_under x some q k (same-turned x.0 (order_at os k).other.0 s)
-      go (Index j) q =
+      go : (f : Option ℕ) → place_under os x ≡ f → ⊥
+      go None q = none_under x some q k (same-turned x.0 (order_at os k).other.0 s)
+      go (Some j) q =
           let same : j ≡ i = cc (same_ticket_replaces os x j (ne_eqb x.0 0 (λ z. omega arith)) q, e) in
           let there : (order_at os j).other.0 ≡ x.0 = eqb-true (order_at os j).other.0 x.0 (stands_under_lem x j q) in
           let here : x.0 ≡ (order_at os k).other.0 = eqb-true x.0 (order_at os k).other.0 s in
@@ -103,7 +98,7 @@ module _ (c own : Ticket) (os : List Order) (fits : OrdersFit c own os) where
           ∙ same)
 
   -- an order put under another's ticket
-  orders-put : (x : Ticket) (limit : Limit) → 1 ≤ x.0 → TicketFits c x → same_ticket x own ≡ false → LimitFits limit → OrdersFit c own (order_put os x limit)
+  orders-put : (x : Ticket) (limit : Option ℕ) → 1 ≤ x.0 → TicketFits c x → same_ticket x own ≡ false → LimitFits limit → OrdersFit c own (order_put os x limit)
   orders-put x limit some issued other fit =
       set_found (room os x) (record { other = x; limit = limit })
       (λ i e.
@@ -134,7 +129,7 @@ location-fits : (number : ℕ) → is_none_or_location number ≡ true → Locat
 unfolding is_none_or_location location_from
 location-fits number e = go (eqb number none) e
   where
-    go : (b : Bool) → (b || is_location number) ≡ true → LocationFits (cond b Nowhere (At number))
+    go : (b : Bool) → (b || is_location number) ≡ true → LocationFits (cond b None (Some number))
     go true q = tt
     go false q = leb-true number last_location q
 
@@ -165,31 +160,31 @@ ShareFits NoShare = Unit
 ShareFits NoPosition = Unit
 ShareFits (Ordered limit) = LimitFits limit
 
-front_fits : (p : Position) → PositionFits p → ShareFits (own_front p)
+front_fits : (p : Option Position) → PositionFits p → ShareFits (own_front p)
 unfolding own_front
-front_fits Unknown h = tt
-front_fits (Between front rear) h = h.0
+front_fits None h = tt
+front_fits (Some p) h = h.0
 
-behind-fits : (p : Position) (margin : ℕ) → PositionFits p → ShareFits (behind p margin)
+behind-fits : (p : Option Position) (margin : ℕ) → PositionFits p → ShareFits (behind p margin)
 unfolding behind
-behind-fits Unknown margin h = tt
-behind-fits (Between front rear) margin h = omega (arith, h.0, h.1)
+behind-fits None margin h = tt
+behind-fits (Some p) margin h = omega (arith, h.0, h.1)
 
 pub share1_fits : (measure : ℕ) (l1 : Train) → PositionFits l1.track.position → ShareFits (share_of_l1 measure l1)
 unfolding share_of_l1
 share1_fits measure l1 h = by (eqb measure 4) (eqb measure 6)
   where
-    by : (m4 m6 : Bool) → ShareFits (cond m4 (own_front l1.track.position) (cond m6 (Ordered Bare) NoShare))
+    by : (m4 m6 : Bool) → ShareFits (cond m4 (own_front l1.track.position) (cond m6 (Ordered None) NoShare))
     by true m6 = front_fits l1.track.position h
     by false true = tt
     by false false = tt
 
-pub share2_fits : (measure : ℕ) (ahead own : Position) (margin : ℕ) → PositionFits ahead → PositionFits own → ShareFits (share_behind measure ahead own margin)
+pub share2_fits : (measure : ℕ) (ahead own : Option Position) (margin : ℕ) → PositionFits ahead → PositionFits own → ShareFits (share_behind measure ahead own margin)
 unfolding share_behind
 share2_fits measure ahead own margin h k = by (eqb measure 2) (eqb measure 3) (eqb measure 4) (eqb measure 5) (eqb measure 6)
   where
     by : (m2 m3 m4 m5 m6 : Bool)
-        → ShareFits (cond m2 (behind ahead margin) (cond m3 (own_front own) (cond m4 (own_front own) (cond m5 (Ordered Bare) (cond m6 (Ordered Bare) NoShare)))))
+        → ShareFits (cond m2 (behind ahead margin) (cond m3 (own_front own) (cond m4 (own_front own) (cond m5 (Ordered None) (cond m6 (Ordered None) NoShare)))))
     by true m3 m4 m5 m6 = behind-fits ahead margin h
     by false true m4 m5 m6 = front_fits own k
     by false false true m5 m6 = front_fits own k

@@ -1,34 +1,32 @@
 -- IN ORDER: what holds of the ticket counter and the view after any operations from the start.
 use mathlib.Core.{Path.◌≡◌, Bool.Bool, Bool.true, Bool.false, Bool.cond, Bool.◌||◌, List.List}
-use Rattle.std.specs.Prelude.{ℕ, ◌+◌, ◌≤◌}
+use Rattle.std.specs.Prelude.{ℕ, ◌+◌, ◌≤◌, Option, None, Some}
 use lib.{Dec.eqb, ListN.length, ListN.get_or, ListN.replicate}
 use Rattle.transitions.specs.Names.{SB, FS, OV, OS, PT, IS}
 use Rattle.kinds.specs.{Kinds.last_loco, Kinds.last_ticket, Kinds.last_slot, Kinds.same_loco, Kinds.same_ticket, Ranges.last_location}
-use Rattle.kinds.specs.{declared.Ticket.Ticket, declared.ranges.Location.Location}
-use Rattle.kinds.specs.declared.ranges.Location.TheVariants.{Nowhere, At}
+use Rattle.kinds.specs.{declared.Ticket.Ticket}
 use Rattle.trains.specs.{Record.no_ticket, Record.no_order, Record.order_count, Record.order_at, Record.blank_train, Record.is_empty, Sought.row_count}
-use Rattle.trains.specs.{declared.record.Limit.Limit, declared.record.Limit.TheVariants.Bare, declared.record.Limit.TheVariants.To}
 use Rattle.trains.specs.{declared.record.Order.Order, declared.record.Position.Position}
-use Rattle.trains.specs.{declared.record.Position.TheVariants.Unknown, declared.record.Position.TheVariants.Between, declared.record.Train.Train}
+use Rattle.trains.specs.{declared.record.Train.Train}
 use Rattle.rules.specs.{Slots.most_slots, Slots.slot_of, View.View, View.row_in, View.is_taken}
 use Rattle.order.specs.Sound.{Live, Has, NoTwo, Sound}
 
 -- ---- one train
 
 -- a location that may be missing is at most 524,287
-abbrev pub LocationFits : Location → Type 0
-LocationFits Nowhere = Unit
-LocationFits (At x) = x ≤ last_location
+abbrev pub LocationFits : Option ℕ → Type 0
+LocationFits None = Unit
+LocationFits (Some x) = x ≤ last_location
 
 -- a reported front is at most 524,287, and the rear is not above it
-abbrev pub PositionFits : Position → Type 0
-PositionFits Unknown = Unit
-PositionFits (Between front rear) = (front ≤ last_location) × (rear ≤ front)
+abbrev pub PositionFits : Option Position → Type 0
+PositionFits None = Unit
+PositionFits (Some p) = (p.front ≤ last_location) × (p.rear ≤ p.front)
 
 -- an order's limit is at most 524,287, or bare
-abbrev pub LimitFits : Limit → Type 0
-LimitFits Bare = Unit
-LimitFits (To x) = x ≤ last_location
+abbrev pub LimitFits : Option ℕ → Type 0
+LimitFits None = Unit
+LimitFits (Some x) = x ≤ last_location
 
 -- OV is entered from SB, FS, OS and PT
 unfoldable pub leaves_for_ov : ℕ → Bool

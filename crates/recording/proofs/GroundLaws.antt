@@ -1,4 +1,5 @@
 -- NO CALL ANSWERS 24: that number is the recording's alone.
+use Rattle.std.specs.Prelude.{Option, None, Some}
 use mathlib.Core.Bool.{Bool, true, false, cond}
 use mathlib.Core.Path.{◌≡◌, sym, subst}
 use mathlib.Core.List.{List, [], ◌∷◌}
@@ -11,8 +12,6 @@ use Rattle.modes.specs.declared.Step.{Step}
 use Rattle.transitions.specs.Table.{Transition}
 use Rattle.trains.specs.Authority.{end_of}
 use Rattle.kinds.specs.declared.Ticket.{Ticket}
-use Rattle.kinds.specs.declared.ranges.Location.{Location}
-use Rattle.kinds.specs.declared.ranges.Location.TheVariants.{Nowhere, At}
 use Rattle.trains.specs.declared.record.Train.{Train}
 use Rattle.replay.specs.Demand3.{Call, op, back}
 use Rattle.rules.specs.Deeds.{Deed, flags, position, authority, danger, clear, end_answer, changed_with, changed_if, step_taken, mode_stepped, done}
@@ -62,10 +61,10 @@ other_if : (b : Bool) (x y : Answer) → Other x.answer → Other y.answer → O
 other_if true x y p q = p
 other_if false x y p q = q
 
-end-other : (p : Location) → Other (end_answer p).answer
+end-other : (p : Option ℕ) → Other (end_answer p).answer
 unfolding end_answer
-end-other Nowhere = λ e. omega arith
-end-other (At end) = λ e. omega arith
+end-other None = λ e. omega arith
+end-other (Some end) = λ e. omega arith
 
 changed-other : (test : Bool) (ground : ℕ) (before after : Train) → Other ground → Other (changed_if test ground before after).answer.answer
 unfolding changed_if

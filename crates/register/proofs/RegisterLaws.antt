@@ -1,5 +1,6 @@
 -- Laws of the register's searches, for whatever is sought: what is found holds it, no row before it does, and nothing is found
 -- exactly where no row holds it.
+use Rattle.std.specs.Prelude.{Option, None, Some}
 use Prim.Native.Nat.{ℕ, ◌+◌, ◌*◌, ◌≤◌, ◌<◌}
 use mathlib.Core.Bool.{Bool, true, false, not, ◌&&◌, ◌||◌, and-true, and-false, and-eq-true_iff}
 use mathlib.Core.List.{List}
@@ -8,8 +9,6 @@ use native.Mathlib.Omega.{arith}
 use borrow.Author.Tests.{eqb-true, eqb-false, ne_eqb, not-true}
 use lib.Dec.{eqb}
 use Rattle.numbers.specs.Numbers.{number_at}
-use Rattle.kinds.specs.declared.found.Found.{Found}
-use Rattle.kinds.specs.declared.found.Found.TheVariants.{Nothing, Index}
 use Rattle.kinds.specs.declared.Loco.{Loco}
 use Rattle.kinds.specs.declared.Ticket.{Ticket}
 use Rattle.trains.specs.declared.record.Train.{Train}
@@ -28,30 +27,30 @@ use Rattle.rows.proofs.RowLaws.{row_parts}
 
 module _ (s : List ℕ) (at : ℕ) (sought : Sought) where
   -- what is found is one of the 24 rows
-  pub found_below : (i : ℕ) → found_in s at sought ≡ Index i → i < row_count
+  pub found_below : (i : ℕ) → found_in s at sought ≡ Some i → i < row_count
   unfolding found_in
   found_below i e = omega (arith, first_below (sought_at s at sought) 0 row_count i e)
 
   -- and holds what is sought
-  pub found_holds : (i : ℕ) → found_in s at sought ≡ Index i → is_sought sought (row_of s at i) ≡ true
+  pub found_holds : (i : ℕ) → found_in s at sought ≡ Some i → is_sought sought (row_of s at i) ≡ true
   unfolding found_in sought_at
   found_holds i e = first-true (sought_at s at sought) 0 row_count i e
 
-  before : (f : Found) (k : ℕ) → f ≡ found_in s at sought → k < row_count → Before k f → is_sought sought (row_of s at k) ≡ false
+  before : (f : Option ℕ) (k : ℕ) → f ≡ found_in s at sought → k < row_count → Before k f → is_sought sought (row_of s at k) ≡ false
   unfolding found_in sought_at
   before f k e l h =
-      first-before (sought_at s at sought) 0 row_count k (omega arith) (omega arith) (subst (λ (g : Found). Before k g) e h)
+      first-before (sought_at s at sought) 0 row_count k (omega arith) (omega arith) (subst (λ (g : Option ℕ). Before k g) e h)
 
   -- no row before it does
-  pub found_first : (i k : ℕ) → found_in s at sought ≡ Index i → k < i → is_sought sought (row_of s at k) ≡ false
-  found_first i k e l = before (Index i) k (sym e) (omega (arith, found_below i e)) l
+  pub found_first : (i k : ℕ) → found_in s at sought ≡ Some i → k < i → is_sought sought (row_of s at k) ≡ false
+  found_first i k e l = before (Some i) k (sym e) (omega (arith, found_below i e)) l
 
   -- where nothing is found, no row does
-  pub found_none : found_in s at sought ≡ Nothing → (k : ℕ) → k < row_count → is_sought sought (row_of s at k) ≡ false
-  found_none e k l = before Nothing k (sym e) l tt
+  pub found_none : found_in s at sought ≡ None → (k : ℕ) → k < row_count → is_sought sought (row_of s at k) ≡ false
+  found_none e k l = before None k (sym e) l tt
 
   -- and where no row does, nothing is found
-  pub none_found : ((k : ℕ) → k < row_count → is_sought sought (row_of s at k) ≡ false) → found_in s at sought ≡ Nothing
+  pub none_found : ((k : ℕ) → k < row_count → is_sought sought (row_of s at k) ≡ false) → found_in s at sought ≡ None
   unfolding found_in sought_at
   none_found h = first-none (sought_at s at sought) 0 row_count (λ k l u. h k (omega arith))
 

@@ -1,7 +1,7 @@
 -- The register of 24 rows, and its searches: for a loco and a ticket together, for a loco, for an empty row.
 use mathlib.Core.{Bool.Bool, Bool.◌&&◌, Bool.◌||◌, List.List}
-use Rattle.std.specs.Prelude.{ℕ, ◌+◌, ◌*◌}
-use Rattle.kinds.specs.{declared.found.Found.Found, declared.Loco.Loco, declared.Ticket.Ticket, Found.first, Kinds.same_loco, Kinds.same_ticket}
+use Rattle.std.specs.Prelude.{ℕ, ◌+◌, ◌*◌, Option}
+use Rattle.kinds.specs.{declared.Loco.Loco, declared.Ticket.Ticket, Found.first, Kinds.same_loco, Kinds.same_ticket}
 use Rattle.trains.specs.{declared.record.Train.Train, Record.no_ticket, Sought.row_count, Sought.is_sought, declared.sought.Sought.Sought}
 use Rattle.rows.specs.Row.{row_bytes, row_at}
 
@@ -15,7 +15,7 @@ row_holds s at loco ticket i =
     same_loco (row_of s at i).loco loco && (same_ticket ticket no_ticket || same_ticket (row_of s at i).ticket ticket)
 
 -- the first such row
-unfoldable pub searched : List ℕ → ℕ → Loco → Ticket → Found
+unfoldable pub searched : List ℕ → ℕ → Loco → Ticket → Option ℕ
 searched s at loco ticket = first (row_holds s at loco ticket) 0 row_count
 
 -- row i of the register holds what is sought
@@ -23,5 +23,5 @@ unfoldable pub sought_at : List ℕ → ℕ → Sought → ℕ → Bool
 sought_at s at sought i = is_sought sought (row_of s at i)
 
 -- the first row of the register that holds what is sought
-unfoldable pub found_in : List ℕ → ℕ → Sought → Found
+unfoldable pub found_in : List ℕ → ℕ → Sought → Option ℕ
 found_in s at sought = first (sought_at s at sought) 0 row_count

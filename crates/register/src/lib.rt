@@ -38,44 +38,44 @@ fn row_holds(register: &[u8], at: usize, i: usize, loco: Loco, ticket: Ticket) -
     Ticket(word_in(register, at, i, row::TICKET)).is(ticket)
 }
 
-fn search(register: &[u8], at: usize, loco: Loco, ticket: Ticket) -> Found
+fn search(register: &[u8], at: usize, loco: Loco, ticket: Ticket) -> Option<usize>
     ensures { result ≡ searched register.now at loco ticket }
 {
     let mut i: usize = 0;
     while i < ROWS {
         if row_holds(register, at, i, loco, ticket) {
-            return Found::Index(i);
+            return Some(i);
         }
         i += 1;
     }
-    Found::Nothing
+    None
 }
 
 // The first row that holds a loco and a ticket together. The loco number of an empty row and a ticket out of range name no train.
-pub fn find(register: &[u8], at: usize, loco: Loco, ticket: Ticket) -> Found
+pub fn find(register: &[u8], at: usize, loco: Loco, ticket: Ticket) -> Option<usize>
     ensures { result ≡ found_in register.now at (Pair loco ticket) }
 {
     if loco.is_none() {
-        return Found::Nothing;
+        return None;
     }
     if !ticket.in_range() {
-        return Found::Nothing;
+        return None;
     }
     search(register, at, loco, ticket)
 }
 
 // The first row with a loco number.
-pub fn find_loco(register: &[u8], at: usize, loco: Loco) -> Found
+pub fn find_loco(register: &[u8], at: usize, loco: Loco) -> Option<usize>
     ensures { result ≡ found_in register.now at (Number loco) }
 {
     if loco.is_none() {
-        return Found::Nothing;
+        return None;
     }
     search(register, at, loco, Ticket(0))
 }
 
 // The first empty row.
-pub fn find_empty(register: &[u8], at: usize) -> Found
+pub fn find_empty(register: &[u8], at: usize) -> Option<usize>
     ensures { result ≡ found_in register.now at Empty }
 {
     search(register, at, Loco(0), Ticket(0))

@@ -1,4 +1,5 @@
 -- Records whose numbers fit a row: what that means, that their numbers read back, and that reading and every change keep it.
+use Rattle.std.specs.Prelude.{Option, None, Some}
 use Prim.Native.Nat.{ℕ, zero, suc, ◌*◌, ◌^◌, ◌≤◌, ◌<◌}
 use mathlib.Core.Bool.{Bool, true, false, cond}
 use mathlib.Core.List.{List, [], ◌∷◌}
@@ -13,25 +14,18 @@ use Rattle.numbers.specs.Fields.{field}
 use Rattle.numbers.specs.Pieces.{unpack}
 use Rattle.numbers.proofs.FieldLaws.{field_lt, lt_or_le}
 use Rattle.numbers.proofs.PieceLaws.{Fit, none, one}
-use Rattle.trains.specs.declared.record.Limit.{Limit}
-use Rattle.trains.specs.declared.record.Limit.TheVariants.{Bare, To}
 use Rattle.trains.specs.declared.record.Order.{Order}
-use Rattle.kinds.specs.declared.ranges.Location.{Location}
-use Rattle.kinds.specs.declared.ranges.Location.TheVariants.{Nowhere, At}
 use Rattle.trains.specs.declared.record.Position.{Position}
-use Rattle.trains.specs.declared.record.Position.TheVariants.{Unknown, Between}
 use Rattle.trains.specs.declared.record.Track.{Track}
 use Rattle.trains.specs.declared.record.Train.{Train}
 use Rattle.transitions.specs.Names.{OV}
-use Rattle.kinds.specs.declared.found.Found.{Found}
-use Rattle.kinds.specs.declared.found.Found.TheVariants.{Nothing, Index}
 use Rattle.kinds.specs.declared.Loco.{Loco}
 use Rattle.kinds.specs.declared.Ticket.{Ticket}
 use Rattle.kinds.specs.declared.Slot.{Slot}
 use Rattle.trains.specs.Changes.{changed, on_track, reported, authorised, endangered, left_for, with_position, with_authority, with_danger, with_mode}
 use Rattle.trains.specs.Orders.{set_at, room, order_place, with_orders, with_order, order_cleared}
 use Rattle.trains.specs.Record.{no_order, order_count, order_at, fresh_train}
-use Rattle.rows.specs.Parts.{bits, location_of, limit_of, position_of, order_of, location_values, limit_values, position_values, location_flag, location_number, position_flag, position_front, position_rear, limit_flag, limit_number}
+use Rattle.rows.specs.Parts.{bits, optional_of, position_of, order_of, optional_values, position_values, flag_of, number_of, position_flag, position_front, position_rear}
 use Rattle.rows.specs.Row.{row_sizes, row_values, train_of, row_at}
 
 -- ---- what fits
@@ -44,26 +38,22 @@ Byte x = x < 2 ^ 8
 abbrev pub Word : ℕ → Type 0
 Word x = x < 2 ^ 32
 
-abbrev pub LocationFits : Location → Type 0
-LocationFits Nowhere = Unit {0}
-LocationFits (At x) = Word x
+abbrev pub OptionalFits : Option ℕ → Type 0
+OptionalFits None = Unit {0}
+OptionalFits (Some x) = Word x
 
-abbrev pub PositionFits : Position → Type 0
-PositionFits Unknown = Unit {0}
-PositionFits (Between front rear) = Word front × Word rear
-
-abbrev pub LimitFits : Limit → Type 0
-LimitFits Bare = Unit {0}
-LimitFits (To x) = Word x
+abbrev pub PositionFits : Option Position → Type 0
+PositionFits None = Unit {0}
+PositionFits (Some p) = Word p.front × Word p.rear
 
 pub record OrderFits (o : Order) : Type 0 where
   pub other : Word o.other.0
-  pub limit : LimitFits o.limit
+  pub limit : OptionalFits o.limit
 
 pub record TrackFits (k : Track) : Type 0 where
   pub position : PositionFits k.position
-  pub granted : LocationFits k.granted
-  pub danger : LocationFits k.danger
+  pub granted : OptionalFits k.granted
+  pub danger : OptionalFits k.danger
 
 -- a record that a row can hold: four orders, and each number within its bytes
 pub record Fits (t : Train) : Type 0 where
@@ -79,41 +69,33 @@ pub record Fits (t : Train) : Type 0 where
 
 -- ---- each number of such a record has no more digits than its width
 
-location_flag_lem : (p : Location) → Byte (location_flag p)
-location_flag_lem Nowhere = omega arith
-location_flag_lem (At x) = omega arith
+flag-fits : (p : Option ℕ) → Byte (flag_of p)
+flag-fits None = omega arith
+flag-fits (Some x) = omega arith
 
-location-number : (p : Location) → LocationFits p → Word (location_number p)
-location-number Nowhere f = omega arith
-location-number (At x) f = f
+number-fits : (p : Option ℕ) → OptionalFits p → Word (number_of p)
+number-fits None f = omega arith
+number-fits (Some x) f = f
 
-position_flag_lem : (p : Position) → Byte (position_flag p)
-position_flag_lem Unknown = omega arith
-position_flag_lem (Between x y) = omega arith
+position_flag_lem : (p : Option Position) → Byte (position_flag p)
+position_flag_lem None = omega arith
+position_flag_lem (Some p) = omega arith
 
-position-front : (p : Position) → PositionFits p → Word (position_front p)
-position-front Unknown f = omega arith
-position-front (Between x y) f = f.0
+position-front : (p : Option Position) → PositionFits p → Word (position_front p)
+position-front None f = omega arith
+position-front (Some p) f = f.0
 
-position_rear_lem : (p : Position) → PositionFits p → Word (position_rear p)
-position_rear_lem Unknown f = omega arith
-position_rear_lem (Between x y) f = f.1
-
-limit_flag_lem : (l : Limit) → Byte (limit_flag l)
-limit_flag_lem Bare = omega arith
-limit_flag_lem (To x) = omega arith
-
-limit-number : (l : Limit) → LimitFits l → Word (limit_number l)
-limit-number Bare f = omega arith
-limit-number (To x) f = f
+position_rear_lem : (p : Option Position) → PositionFits p → Word (position_rear p)
+position_rear_lem None f = omega arith
+position_rear_lem (Some p) f = f.1
 
 -- a part of a row, and the rest of it
-location_fit : (p : Location) → LocationFits p → {ws vs : List ℕ} → Fit ws vs → Fit (8 ∷ 32 ∷ ws) (location_flag p ∷ location_number p ∷ vs)
-location_fit p f r = one (location_flag_lem p) (one (location-number p f) r)
+optional_fit : (p : Option ℕ) → OptionalFits p → {ws vs : List ℕ} → Fit ws vs → Fit (8 ∷ 32 ∷ ws) (flag_of p ∷ number_of p ∷ vs)
+optional_fit p f r = one (flag-fits p) (one (number-fits p f) r)
 
 order_fit : (o : Order) → OrderFits o → {ws vs : List ℕ} → Fit ws vs
-    → Fit (32 ∷ 8 ∷ 32 ∷ ws) (o.other.0 ∷ limit_flag o.limit ∷ limit_number o.limit ∷ vs)
-order_fit o f r = one f.other (one (limit_flag_lem o.limit) (one (limit-number o.limit f.limit) r))
+    → Fit (32 ∷ 8 ∷ 32 ∷ ws) (o.other.0 ∷ flag_of o.limit ∷ number_of o.limit ∷ vs)
+order_fit o f r = one f.other (one (flag-fits o.limit) (one (number-fits o.limit f.limit) r))
 
 pub row_fit : (t : Train) → Fits t → Fit (bits row_sizes) (row_values t)
 row_fit t f =
@@ -127,8 +109,8 @@ row_fit t f =
     (one (position_flag_lem k.position)
     (one (position-front k.position f.track.position)
     (one (position_rear_lem k.position f.track.position)
-    (location_fit k.granted f.track.granted
-    (location_fit k.danger f.track.danger
+    (optional_fit k.granted f.track.granted
+    (optional_fit k.danger f.track.danger
     (order_fit (order_at t.orders 0) (f.orders 0)
     (order_fit (order_at t.orders 1) (f.orders 1)
     (order_fit (order_at t.orders 2) (f.orders 2)
@@ -137,23 +119,18 @@ row_fit t f =
 
 -- ---- the numbers of such a record read back
 
-location-back : (p : Location) → location_of (location_values p) ≡ p
-unfolding location_of
-location-back Nowhere = refl
-location-back (At x) = refl
+optional-back : (p : Option ℕ) → optional_of (optional_values p) ≡ p
+unfolding optional_of
+optional-back None = refl
+optional-back (Some x) = refl
 
-position-back : (p : Position) → position_of (position_values p) ≡ p
+position-back : (p : Option Position) → position_of (position_values p) ≡ p
 unfolding position_of
-position-back Unknown = refl
-position-back (Between x y) = refl
+position-back None = refl
+position-back (Some p) = refl
 
-limit-back : (l : Limit) → limit_of (limit_values l) ≡ l
-unfolding limit_of
-limit-back Bare = refl
-limit-back (To x) = refl
-
-order-back : (o : Order) → ◌≡◌ {A = Order} (record { other = o.other; limit = limit_of (limit_values o.limit) }) o
-order-back o = λ i. record { other = o.other; limit = limit-back o.limit i }
+order-back : (o : Order) → ◌≡◌ {A = Order} (record { other = o.other; limit = optional_of (optional_values o.limit) }) o
+order-back o = λ i. record { other = o.other; limit = optional-back o.limit i }
 
 four-orders : (os : List Order) → length os ≡ 4 → order_at os 0 ∷ order_at os 1 ∷ order_at os 2 ∷ order_at os 3 ∷ [] ≡ os
 four-orders [] h = absurd (omega arith)
@@ -164,7 +141,7 @@ four-orders (a ∷ (b ∷ (d ∷ (e ∷ [])))) h = refl
 four-orders (a ∷ (b ∷ (d ∷ (e ∷ (f ∷ os))))) h = absurd (omega arith)
 
 pub train-back : (t : Train) → Fits t → train_of (row_values t) ≡ t
-unfolding location_of limit_of position_of
+unfolding optional_of position_of
 train-back t f =
     (λ i. record {
       loco = t.loco;
@@ -175,8 +152,8 @@ train-back t f =
       left = t.left;
       track = record {
         position = position-back t.track.position i;
-        granted = location-back t.track.granted i;
-        danger = location-back t.track.danger i;
+        granted = optional-back t.track.granted i;
+        danger = optional-back t.track.danger i;
       };
       orders = order-back (order_at t.orders 0) i ∷ order-back (order_at t.orders 1) i
           ∷ order-back (order_at t.orders 2) i ∷ order-back (order_at t.orders 3) i ∷ [];
@@ -185,19 +162,11 @@ train-back t f =
 
 -- ---- what is read fits
 
-location-fits : (vs : List ℕ) → Word (get_or vs 1 0) → LocationFits (location_of vs)
-unfolding location_of
-location-fits vs h = go (eqb (get_or vs 0 0) 0)
+optional-fits : (vs : List ℕ) → Word (get_or vs 1 0) → OptionalFits (optional_of vs)
+unfolding optional_of
+optional-fits vs h = go (eqb (get_or vs 0 0) 0)
   where
-    go : (b : Bool) → LocationFits (cond b Nowhere (At (get_or vs 1 0)))
-    go true = tt
-    go false = h
-
-limit-fits : (vs : List ℕ) → Word (get_or vs 1 0) → LimitFits (limit_of vs)
-unfolding limit_of
-limit-fits vs h = go (eqb (get_or vs 0 0) 0)
-  where
-    go : (b : Bool) → LimitFits (cond b Bare (To (get_or vs 1 0)))
+    go : (b : Bool) → OptionalFits (cond b None (Some (get_or vs 1 0)))
     go true = tt
     go false = h
 
@@ -205,12 +174,12 @@ position-fits : (vs : List ℕ) → Word (get_or vs 1 0) → Word (get_or vs 2 0
 unfolding position_of
 position-fits vs h k = go (eqb (get_or vs 0 0) 0)
   where
-    go : (b : Bool) → PositionFits (cond b Unknown (Between (get_or vs 1 0) (get_or vs 2 0)))
+    go : (b : Bool) → PositionFits (cond b None (Some (record { front = get_or vs 1 0; rear = get_or vs 2 0 })))
     go true = tt
     go false = (h, k)
 
 order-fits : (vs : List ℕ) → Word (get_or vs 0 0) → Word (get_or (drop 1 vs) 1 0) → OrderFits (order_of vs)
-order-fits vs h k = record { other = h; limit = limit-fits (drop 1 vs) k }
+order-fits vs h k = record { other = h; limit = optional-fits (drop 1 vs) k }
 
 no_order-fits : OrderFits no_order
 no_order-fits = record { other = omega arith; limit = tt }
@@ -240,8 +209,8 @@ fits_read s at =
       left = byte _;
       track = record {
         position = position-fits _ (word _) (word _);
-        granted = location-fits _ (word _);
-        danger = location-fits _ (word _);
+        granted = optional-fits _ (word _);
+        danger = optional-fits _ (word _);
       };
       four = refl;
       orders =
@@ -287,11 +256,11 @@ pub fits-position : (t : Train) (front rear : ℕ) → Fits t → Word front →
 fits-position t front rear f x y =
     on_track_lem t (reported t.track front rear) f (record { position = (x, y); granted = f.track.granted; danger = f.track.danger })
 
-pub fits-authority : (t : Train) (end : Location) → Fits t → LocationFits end → Fits (with_authority t end)
+pub fits-authority : (t : Train) (end : Option ℕ) → Fits t → OptionalFits end → Fits (with_authority t end)
 fits-authority t end f x =
     on_track_lem t (authorised t.track end) f (record { position = f.track.position; granted = x; danger = f.track.danger })
 
-pub fits-danger : (t : Train) (danger : Location) → Fits t → LocationFits danger → Fits (with_danger t danger)
+pub fits-danger : (t : Train) (danger : Option ℕ) → Fits t → OptionalFits danger → Fits (with_danger t danger)
 fits-danger t danger f x =
     on_track_lem t (endangered t.track danger) f (record { position = f.track.position; granted = f.track.granted; danger = x })
 
@@ -307,28 +276,28 @@ pub fits-mode : (t : Train) (mode : ℕ) → Fits t → Byte mode → Fits (with
 fits-mode t mode f m =
     fits-changed t mode (left_for t.mode mode) t.track t.orders f m (left-fits t.mode mode f.mode) f.track f.four f.orders
 
-set-fits : (os : List Order) (f : Found) (o : Order) → ((i : ℕ) → OrderFits (order_at os i)) → OrderFits o
+set-fits : (os : List Order) (f : Option ℕ) (o : Order) → ((i : ℕ) → OrderFits (order_at os i)) → OrderFits o
     → (i : ℕ) → OrderFits (order_at (set_at os f o) i)
 unfolding set_at
-set-fits os Nothing o h g i = h i
-set-fits os (Index j) o h g i = rw_order (ℕ_discrete i j) (lt_or_le j (length os))
+set-fits os None o h g i = h i
+set-fits os (Some j) o h g i = rw_order (ℕ_discrete i j) (lt_or_le j (length os))
   where
     rw_order : Dec (i ≡ j) → (j < length os) ⊎ (length os ≤ j) → OrderFits (order_at (set os j o) i)
     rw_order (no n) k = rw (get_or-set_other os j i o no_order n) (h i)
     rw_order (yes e) (inl k) = rw (e, get_or-set_same os j o no_order k) g
     rw_order (yes e) (inr k) = rw (set_out os j o k) (h i)
 
-set-four : (os : List Order) (f : Found) (o : Order) → length (set_at os f o) ≡ length os
+set-four : (os : List Order) (f : Option ℕ) (o : Order) → length (set_at os f o) ≡ length os
 unfolding set_at
-set-four os Nothing o = refl
-set-four os (Index j) o = length-set os j o
+set-four os None o = refl
+set-four os (Some j) o = length-set os j o
 
-with-orders : (t : Train) (g : Found) (o : Order) → Fits t → OrderFits o → Fits (with_orders t (set_at t.orders g o))
+with-orders : (t : Train) (g : Option ℕ) (o : Order) → Fits t → OrderFits o → Fits (with_orders t (set_at t.orders g o))
 with-orders t g o f x =
     fits-changed t t.mode t.left t.track (set_at t.orders g o) f f.mode f.left f.track
     (set-four t.orders g o ∙ f.four) (set-fits t.orders g o f.orders x)
 
-pub fits-order : (t : Train) (other : Ticket) (limit : Limit) → Fits t → Word other.0 → LimitFits limit → Fits (with_order t other limit)
+pub fits-order : (t : Train) (other : Ticket) (limit : Option ℕ) → Fits t → Word other.0 → OptionalFits limit → Fits (with_order t other limit)
 fits-order t other limit f x y =
     with-orders t (room t.orders other) (record { other = other; limit = limit }) f (record { other = x; limit = y })
 

@@ -14,7 +14,7 @@ use Rattle.numbers.proofs.PieceLaws.{length-pack, bytes-pack, bit_pack_out, unpa
 use Rattle.trains.specs.declared.record.Order.{Order}
 use Rattle.trains.specs.declared.record.Train.{Train}
 use Rattle.trains.specs.Record.{order_count, order_at, blank_train}
-use Rattle.rows.specs.Parts.{bits, track_sizes, order_sizes, orders_sizes, track_of, orders_of, track_values, order_values, orders_values, location_of, limit_of, position_of}
+use Rattle.rows.specs.Parts.{bits, track_sizes, order_sizes, orders_sizes, track_of, orders_of, track_values, order_values, orders_values, optional_of, position_of}
 use Rattle.rows.specs.Row.{row_bytes, track_start, orders_start, head_sizes, head_values, row_at, put_row, row_sizes, row_values, train_of}
 use Rattle.rows.proofs.Bytewise.{unpack_past, field-same, unpack-same, pack-same, bit_of_byte}
 use Rattle.rows.proofs.FitLaws.{Fits, row_fit, train-back}
@@ -38,7 +38,7 @@ row_from s a b c d e f g h = record {
 pub row_parts : (s : List ℕ) (at : ℕ)
     → row_at s at
     ≡ row_from s (8 * at) (8 * (at + 4)) (8 * (at + 8)) (8 * (at + 9)) (8 * (at + 10)) (8 * (at + 11)) (8 * (at + 12)) (8 * (at + 31))
-unfolding row_at unpack location_of limit_of position_of
+unfolding row_at unpack optional_of position_of
 row_parts s at =
     let p : ℕ = 8 * at in
     let b : p + 32 ≡ 8 * (at + 4) = omega arith in
@@ -85,7 +85,7 @@ order-end os k s p h = let z : order_count - k ≡ 0 = omega arith in λ i. pack
 
 -- a row past the end reads as blank
 pub row_past : (s : List ℕ) (at : ℕ) → length s ≤ at → row_at s at ≡ blank_train
-unfolding row_at location_of limit_of position_of
+unfolding row_at optional_of position_of
 row_past s at h = ap train_of (unpack_past s (8 * at) (bits row_sizes) (omega arith))
 
 -- ---- a row is fixed by its 67 bytes

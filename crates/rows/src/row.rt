@@ -1,14 +1,13 @@
 // The train record as a row of 67 bytes, both ways: its head, its track and its four orders, one behind the other.
 ghost use Rattle.std.specs.Prelude.{◌≡◌, [], ◌∷◌, ◌+◌, ◌*◌, ◌^◌, ◌<◌};
 ghost use Rattle.numbers.specs.Pieces.{unpack, pack};
-ghost use Rattle.rows.specs.Parts.{bits, flagged_sizes, position_sizes, track_sizes, order_sizes, orders_sizes, location_of, limit_of, position_of, track_of, order_of, orders_of};
-ghost use Rattle.rows.specs.Parts.{location_values, limit_values, position_values, track_values, order_values, orders_values};
+ghost use Rattle.rows.specs.Parts.{bits, flagged_sizes, position_sizes, track_sizes, order_sizes, orders_sizes, optional_of, position_of, track_of, order_of, orders_of};
+ghost use Rattle.rows.specs.Parts.{optional_values, position_values, track_values, order_values, orders_values};
 ghost use Rattle.rows.specs.Row.{track_start, orders_start, head_sizes, head_values, row_at, put_row};
 
-use kinds::ranges::Location;
 use kinds::{Loco, Slot, Ticket};
 use trains::orders;
-use trains::record::{Limit, Order, Position, Track, Train};
+use trains::record::{Order, Position, Track, Train};
 
 const BYTE: usize = 1;
 
@@ -54,33 +53,27 @@ const FLAGGED: usize = BYTE + WORD;
 // The other train's ticket, and the limit.
 const ORDER: usize = WORD + FLAGGED;
 
-fn location_at(s: &[u8], i: usize) -> Location
+// A location or a limit: nothing where its flag is 0.
+fn optional_at(s: &[u8], i: usize) -> Option<u32>
     requires { i + 5 < 2 ^ 64 }
-    ensures { result ≡ location_of (unpack s.now (8 * i) (bits flagged_sizes)) }
+    ensures { result ≡ optional_of (unpack s.now (8 * i) (bits flagged_sizes)) }
 {
     if numbers::byte_at(s, i) == 0 {
-        return Location::Nowhere;
+        return None;
     }
-    Location::At(numbers::word_at(s, i + BYTE))
+    Some(numbers::word_at(s, i + BYTE))
 }
 
-fn limit_at(s: &[u8], i: usize) -> Limit
-    requires { i + 5 < 2 ^ 64 }
-    ensures { result ≡ limit_of (unpack s.now (8 * i) (bits flagged_sizes)) }
-{
-    if numbers::byte_at(s, i) == 0 {
-        return Limit::Bare;
-    }
-    Limit::To(numbers::word_at(s, i + BYTE))
-}
-
-fn position_at(s: &[u8]) -> Position
+fn position_at(s: &[u8]) -> Option<Position>
     ensures { result ≡ position_of (unpack s.now (8 * track_start) (bits position_sizes)) }
 {
     if numbers::byte_at(s, POSITION) == 0 {
-        return Position::Unknown;
+        return None;
     }
-    Position::Between(numbers::word_at(s, FRONT), numbers::word_at(s, REAR))
+    Some(Position {
+        front: numbers::word_at(s, FRONT),
+        rear: numbers::word_at(s, REAR),
+    })
 }
 
 fn track_at(s: &[u8; ROW]) -> Track
@@ -88,8 +81,8 @@ fn track_at(s: &[u8; ROW]) -> Track
 {
     Track {
         position: position_at(s),
-        granted: location_at(s, GRANTED),
-        danger: location_at(s, DANGER),
+        granted: optional_at(s, GRANTED),
+        danger: optional_at(s, DANGER),
     }
 }
 
@@ -99,7 +92,7 @@ fn order_at(s: &[u8; ROW], i: usize) -> Order
 {
     Order {
         other: Ticket(numbers::word_at(s, i)),
-        limit: limit_at(s, i + WORD),
+        limit: optional_at(s, i + WORD),
     }
 }
 
@@ -149,23 +142,13 @@ fn put_flagged(out: &mut [u8; ROW], i: usize, flag: u32, x: u32)
     numbers::put_word(out, i + BYTE, x);
 }
 
-fn put_location(out: &mut [u8; ROW], i: usize, p: Location)
+fn put_optional(out: &mut [u8; ROW], i: usize, number: Option<u32>)
     requires { i + 5 < 2 ^ 64 }
-    ensures { out.new ≡ pack out.old (8 * i) (bits flagged_sizes) (location_values p) }
+    ensures { out.new ≡ pack out.old (8 * i) (bits flagged_sizes) (optional_values number) }
 {
-    match p {
-        Location::Nowhere => put_flagged(out, i, 0, 0),
-        Location::At(x) => put_flagged(out, i, 1, x),
-    }
-}
-
-fn put_limit(out: &mut [u8; ROW], i: usize, l: Limit)
-    requires { i + 5 < 2 ^ 64 }
-    ensures { out.new ≡ pack out.old (8 * i) (bits flagged_sizes) (limit_values l) }
-{
-    match l {
-        Limit::Bare => put_flagged(out, i, 0, 0),
-        Limit::To(x) => put_flagged(out, i, 1, x),
+    match number {
+        None => put_flagged(out, i, 0, 0),
+        Some(x) => put_flagged(out, i, 1, x),
     }
 }
 
@@ -176,42 +159,36 @@ fn put_ends(out: &mut [u8; ROW], flag: u32, front: u32, rear: u32)
     numbers::put_word(out, REAR, rear);
 }
 
-fn put_position(out: &mut [u8; ROW], p: Position)
-    ensures { out.new ≡ pack out.old (8 * track_start) (bits position_sizes) (position_values p) }
+fn put_position(out: &mut [u8; ROW], position: Option<Position>)
+    ensures { out.new ≡ pack out.old (8 * track_start) (bits position_sizes) (position_values position) }
 {
-    match p {
-        Position::Unknown => put_ends(out, 0, 0, 0),
-        Position::Between(front, rear) => put_ends(out, 1, front, rear),
+    match position {
+        None => put_ends(out, 0, 0, 0),
+        Some(ends) => put_ends(out, 1, ends.front, ends.rear),
     }
 }
 
 fn put_track(out: &mut [u8; ROW], track: Track)
     ensures { out.new ≡ pack out.old (8 * track_start) (bits track_sizes) (track_values track) }
 {
-    let position = track.position;
-    let granted = track.granted;
-    let danger = track.danger;
-    put_position(out, position);
-    put_location(out, GRANTED, granted);
-    put_location(out, DANGER, danger);
+    put_position(out, track.position);
+    put_optional(out, GRANTED, track.granted);
+    put_optional(out, DANGER, track.danger);
 }
 
 fn put_order(out: &mut [u8; ROW], i: usize, order: Order)
     requires { i + 9 < 2 ^ 64 }
     ensures { out.new ≡ pack out.old (8 * i) (bits order_sizes) (order_values order) }
 {
-    let limit = order.limit;
     numbers::put_word(out, i, order.other.0);
-    put_limit(out, i + WORD, limit);
+    put_optional(out, i + WORD, order.limit);
 }
 
 fn put_orders(out: &mut [u8; ROW], held: [Order; 4])
     ensures { out.new ≡ pack out.old (8 * orders_start) (bits orders_sizes) (orders_values held) }
 {
-    let mut k: usize = 0;
-    while k < orders::ORDERS {
+    for k in 0..orders::ORDERS {
         put_order(out, ORDERS + ORDER * k, held[k]);
-        k += 1;
     }
 }
 
@@ -230,11 +207,9 @@ fn put_head(out: &mut [u8; ROW], t: Train)
 pub fn put_row(out: &mut [u8], at: usize, t: Train)
     ensures { out.new ≡ put_row out.old at t }
 {
-    let track = t.track;
-    let orders = t.orders;
     let mut row: [u8; ROW] = [0; ROW];
     put_head(&mut row, t);
-    put_track(&mut row, track);
-    put_orders(&mut row, orders);
+    put_track(&mut row, t.track);
+    put_orders(&mut row, t.orders);
     numbers::copy(&row, 0, ROW, out, at);
 }

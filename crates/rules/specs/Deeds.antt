@@ -1,10 +1,9 @@
 -- DEEDS, the operations on one train that is named: flags, position, authority, danger location, an order cleared. A deed takes a train and gives
 -- the answer and the train afterwards, and sees nothing else.
 use mathlib.Core.{Bool.Bool, Bool.cond, List.List}
-use Rattle.std.specs.Prelude.{ℕ, eqb}
+use Rattle.std.specs.Prelude.{ℕ, eqb, Option, None, Some}
 use Rattle.modes.specs.{Next.next_step, declared.Step.Step}
-use Rattle.kinds.specs.{Ranges.is_position, Ranges.is_none_or_location, Ranges.location_from, declared.Ticket.Ticket, declared.ranges.Location.Location}
-use Rattle.kinds.specs.declared.ranges.Location.TheVariants.{Nowhere, At}
+use Rattle.kinds.specs.{Ranges.is_position, Ranges.is_none_or_location, Ranges.location_from, declared.Ticket.Ticket}
 use Rattle.trains.specs.{Authority.end_of, Orders.has_order, Orders.order_cleared}
 use Rattle.trains.specs.{Changes.with_position, Changes.with_authority, Changes.with_danger, Changes.with_mode, declared.record.Train.Train}
 use Rattle.rules.specs.{Effect.row_only, Named.name_ground, Named.name_answer, Refusals.bad_position, Refusals.bad_location, Refusals.no_such_order}
@@ -28,9 +27,9 @@ meant (Danger location) fs = danger location
 meant (Clear other) fs = clear other
 
 -- the answer for a train's end: 1 and the effective end, or zeros for none
-unfoldable pub end_answer : Location → Answer
-end_answer Nowhere = accepted_with 0 0 0
-end_answer (At end) = accepted_with 1 end 0
+unfoldable pub end_answer : Option ℕ → Answer
+end_answer None = accepted_with 0 0 0
+end_answer (Some end) = accepted_with 1 end 0
 
 -- an answer with a train
 abbrev pub changed_with : Answer → Train → Changed

@@ -1,7 +1,6 @@
 -- The train that a loco and a ticket name together.
-use Rattle.std.specs.Prelude.{Bool, true, false, cond, ℕ, eqb}
-use Rattle.kinds.specs.{Kinds.loco_in_range, declared.Loco.Loco, declared.Ticket.Ticket, declared.found.Found.Found}
-use Rattle.kinds.specs.declared.found.Found.TheVariants.{Nothing, Index}
+use Rattle.std.specs.Prelude.{Bool, true, false, cond, ℕ, eqb, Option, None, Some}
+use Rattle.kinds.specs.{Kinds.loco_in_range, declared.Loco.Loco, declared.Ticket.Ticket}
 use Rattle.trains.specs.{Record.blank_train, Sought.row_count, declared.sought.Sought.TheVariants.Pair}
 use Rattle.rules.specs.{Refusals.bad_loco, Refusals.no_live_train, Ruling.refused_with, Ruling.unless, View.View, View.row_in, View.find_in}
 use Rattle.rules.specs.{declared.named.Named.Named, declared.ruling.Answer.Answer}
@@ -11,9 +10,9 @@ abbrev pub nobody : Loco → Named
 nobody loco = record { loco = loco; live = false; row = row_count; train = blank_train }
 
 -- the train in the row that was found
-unfoldable pub in_row : Loco → View → Found → Named
-in_row loco v Nothing = nobody loco
-in_row loco v (Index row) = record { loco = loco; live = true; row = row; train = row_in v row }
+unfoldable pub in_row : Loco → View → Option ℕ → Named
+in_row loco v None = nobody loco
+in_row loco v (Some row) = record { loco = loco; live = true; row = row; train = row_in v row }
 
 -- the live train with this loco and this ticket, and its row
 unfoldable pub named_in : Loco → Ticket → View → Named

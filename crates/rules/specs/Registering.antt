@@ -1,14 +1,13 @@
 -- Trains come and go: REQUEST and RELEASE.
-use Rattle.std.specs.Prelude.{true, false, ℕ, suc}
-use Rattle.kinds.specs.{Found.is_found, Kinds.last_ticket, Kinds.is_above, Kinds.loco_in_range, declared.Loco.Loco, declared.Slot.Slot}
-use Rattle.kinds.specs.{declared.Ticket.Ticket, declared.found.Found.Found}
-use Rattle.kinds.specs.declared.found.Found.TheVariants.{Nothing, Index}
+use Rattle.std.specs.Prelude.{true, false, ℕ, suc, Option, None, Some, is_some}
+use Rattle.kinds.specs.{Kinds.last_ticket, Kinds.is_above, Kinds.loco_in_range, declared.Loco.Loco, declared.Slot.Slot}
+use Rattle.kinds.specs.{declared.Ticket.Ticket}
 use Rattle.trains.specs.{Record.blank_train, Record.fresh_train, Sought.row_count}
 use Rattle.trains.specs.declared.sought.Sought.TheVariants.{Number, Empty}
 use Rattle.rules.specs.{Effect.row_and_run, View.View, View.find_in}
 use Rattle.rules.specs.Refusals.{bad_loco, bad_bytes, already_registered, register_full, no_ticket_left, no_free_run}
 use Rattle.rules.specs.Ruling.{accepted_with, ruling, when, unless}
-use Rattle.rules.specs.{Slots.is_request, Slots.slots_for, Slots.lowest_run, Slots.is_run_found, Slots.start_of, declared.named.Named.Named}
+use Rattle.rules.specs.{Slots.is_request, Slots.slots_for, Slots.lowest_run, Slots.start_of, declared.named.Named.Named}
 use Rattle.rules.specs.declared.ruling.Ruling.{Ruling}
 
 -- the ticket with a number
@@ -24,16 +23,16 @@ unfoldable pub request_ground : ℕ → Loco → ℕ → Ticket → View → ℕ
 request_ground per_slot loco bytes counter v =
     unless (loco_in_range loco) bad_loco
     (unless (is_request per_slot bytes) bad_bytes
-    (when (is_found (find_in v (Number loco))) already_registered
-    (unless (is_found (find_in v Empty)) register_full
+    (when (is_some (find_in v (Number loco))) already_registered
+    (unless (is_some (find_in v Empty)) register_full
     (unless (is_above (ticket_of last_ticket) counter) no_ticket_left
-    (unless (is_run_found (lowest_run v.book (slots_for per_slot bytes))) no_free_run
+    (unless (is_some (lowest_run v.book (slots_for per_slot bytes))) no_free_run
     0)))))
 
 -- the row that was found; no row where there is none
-unfoldable pub row_of_found : Found → ℕ
-row_of_found Nothing = row_count
-row_of_found (Index row) = row
+unfoldable pub row_of_found : Option ℕ → ℕ
+row_of_found None = row_count
+row_of_found (Some row) = row
 
 -- a train granted: in a row, under a ticket, which is the counter afterwards, with its slots taken
 unfoldable pub granted : Loco → ℕ → Ticket → ℕ → Slot → Ruling

@@ -1,10 +1,8 @@
 -- The slot book: how many slots a request needs, and where they are. `per_slot` is the bytes that a slot carries.
 use mathlib.Core.{Bool.Bool, Bool.true, Bool.false, Bool.not, Bool.◌&&◌, List.List}
-use Rattle.std.specs.Prelude.{ℕ, zero, suc, ◌+◌, ◌-◌, ◌*◌, ◌/◌}
-use Rattle.kinds.specs.{Found.first, Kinds.last_slot, Kinds.slot_in_range, Ranges.one_to, declared.Slot.Slot, declared.found.Found.Found}
-use Rattle.kinds.specs.declared.found.Found.TheVariants.{Nothing, Index}
-use Rattle.rules.specs.{View.is_taken, declared.slots.FreeRun.FreeRun}
-use Rattle.rules.specs.declared.slots.FreeRun.TheVariants.{NoRun, From}
+use Rattle.std.specs.Prelude.{ℕ, zero, suc, ◌+◌, ◌-◌, ◌*◌, ◌/◌, Option, None, Some}
+use Rattle.kinds.specs.{Found.first, Kinds.last_slot, Kinds.slot_in_range, Ranges.one_to, declared.Slot.Slot}
+use Rattle.rules.specs.{View.is_taken}
 
 abbrev pub most_slots : ℕ  -- a request may need six slots
 most_slots = 6
@@ -31,20 +29,20 @@ is_run book slot zero = true
 is_run book slot (suc n) = is_free book (slot_of slot) && is_run book (suc slot) n
 
 -- the run from a start that was found
-unfoldable pub run_from : Found → FreeRun
-run_from Nothing = NoRun
-run_from (Index start) = From (slot_of start)
+unfoldable pub run_from : Option ℕ → Option Slot
+run_from None = None
+run_from (Some start) = Some (slot_of start)
 
 -- the lowest start where n slots side by side are free
-unfoldable pub lowest_run : List ℕ → ℕ → FreeRun
+unfoldable pub lowest_run : List ℕ → ℕ → Option Slot
 lowest_run book n = run_from (first (λ start. is_run book start n) 1 last_slot)
 
 -- there is such a start
-unfoldable pub is_run_found : FreeRun → Bool
-is_run_found NoRun = false
-is_run_found (From start) = true
+unfoldable pub is_run_found : Option Slot → Bool
+is_run_found None = false
+is_run_found (Some start) = true
 
 -- and it is this slot; 0 where there is none
-unfoldable pub start_of : FreeRun → Slot
-start_of NoRun = slot_of 0
-start_of (From start) = start
+unfoldable pub start_of : Option Slot → Slot
+start_of None = slot_of 0
+start_of (Some start) = start

@@ -1,8 +1,8 @@
 -- THE VIEW, all that the rules look at beside the ticket counter: the register's trains and the slot book. There is no byte in it.
 use mathlib.Core.{Bool.Bool, Bool.not, Bool.◌&&◌, List.List}
-use Rattle.std.specs.Prelude.{ℕ, ◌-◌}
+use Rattle.std.specs.Prelude.{ℕ, ◌-◌, Option}
 use lib.{Dec.eqb, ListN.get_or}
-use Rattle.kinds.specs.{Found.first, Kinds.slot_in_range, declared.found.Found.Found, declared.Slot.Slot}
+use Rattle.kinds.specs.{Found.first, Kinds.slot_in_range, declared.Slot.Slot}
 use Rattle.trains.specs.{Record.blank_train, Sought.row_count, Sought.is_sought, declared.record.Train.Train, declared.sought.Sought.Sought}
 
 -- the 24 rows, and for each of the 44 slots a mark: 0 where it is free
@@ -27,5 +27,5 @@ unfoldable pub sought_in : View → Sought → ℕ → Bool
 sought_in v sought i = is_sought sought (row_in v i)
 
 -- the first row that holds what is sought
-unfoldable pub find_in : View → Sought → Found
+unfoldable pub find_in : View → Sought → Option ℕ
 find_in v sought = first (sought_in v sought) 0 row_count

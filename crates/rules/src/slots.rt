@@ -8,7 +8,7 @@ const MOST_SLOTS: u64 = 6;
 
 // The lowest start of a run of free slots that is long enough, if there is one.
 #[derive(Clone, Copy)]
-pub enum FreeRun {
+pub enum Option<Slot> {
     NoRun,
     From(Slot),
 }

@@ -1,4 +1,5 @@
 -- EVERY EFFECT of an accepted operation fits the bytes, where the trains of the view fit their rows: a train that is changed still fits its row.
+use Rattle.std.specs.Prelude.{None, Some}
 use mathlib.Core.Path.{◌≡◌, refl, sym, subst}
 use mathlib.Core.Bool.{Bool, true, false, cond, ◌||◌}
 use mathlib.Core.List.{List, []}
@@ -14,7 +15,6 @@ use Rattle.kinds.specs.Ranges.{none, last_location, is_location, is_position, is
 use Rattle.trains.specs.Record.{blank_train}
 use Rattle.kinds.specs.declared.Loco.{Loco}
 use Rattle.kinds.specs.declared.Ticket.{Ticket}
-use Rattle.kinds.specs.declared.ranges.Location.TheVariants.{Nowhere, At}
 use Rattle.trains.specs.declared.record.Train.{Train}
 use Rattle.kinds.proofs.RangeLaws.{position-ends}
 use Rattle.rows.proofs.FitLaws.{Byte, LocationFits, Fits, fits_read, fits_fresh, fits-position, fits-authority, fits-danger, fits-mode, fits_cleared}
@@ -45,7 +45,7 @@ location-fits : (number : ℕ) → is_none_or_location number ≡ true → Locat
 unfolding is_none_or_location location_from
 location-fits number e = go (eqb number none) e
   where
-    go : (b : Bool) → (b || is_location number) ≡ true → LocationFits (cond b Nowhere (At number))
+    go : (b : Bool) → (b || is_location number) ≡ true → LocationFits (cond b None (Some number))
     go true h = tt
     go false h = let l : number ≤ last_location = leb-true number last_location h in omega arith
 

@@ -1,4 +1,5 @@
 -- What an SOS gives a train fits its row: the limits are locations of positions that fit.
+use Rattle.std.specs.Prelude.{None, Option, Some}
 use mathlib.Core.Bool.{Bool, true, false, cond}
 use Prim.Native.Nat.{ℕ, ◌^◌, ◌<◌}
 use native.Mathlib.Omega.{arith}
@@ -8,9 +9,7 @@ use Rattle.sos.specs.Shares.{own_front, behind, by_measure, share_of_l1, share_b
 use Rattle.sos.specs.declared.shares.Share.{Share}
 use Rattle.sos.specs.declared.shares.Share.TheVariants.{Nothing, NoPosition, Order}
 use Rattle.kinds.specs.declared.Ticket.{Ticket}
-use Rattle.trains.specs.declared.record.Limit.TheVariants.{Bare}
 use Rattle.trains.specs.declared.record.Position.{Position}
-use Rattle.trains.specs.declared.record.Position.TheVariants.{Unknown, Between}
 use Rattle.trains.specs.declared.record.Train.{Train}
 use Rattle.rules.specs.Raising.{share_taken}
 
@@ -24,19 +23,19 @@ nothing-fits : ShareFits Nothing
 unfolding ShareFits
 nothing-fits = tt
 
-bare_fits : ShareFits (Order Bare)
+bare_fits : ShareFits (Order None)
 unfolding ShareFits
 bare_fits = tt
 
-own_front-fits : (p : Position) → PositionFits p → ShareFits (own_front p)
+own_front-fits : (p : Option Position) → PositionFits p → ShareFits (own_front p)
 unfolding own_front ShareFits
-own_front-fits Unknown f = tt
-own_front-fits (Between front rear) f = f.0
+own_front-fits None f = tt
+own_front-fits (Some p) f = f.0
 
-behind-fits : (p : Position) (distance : ℕ) → PositionFits p → ShareFits (behind p distance)
+behind-fits : (p : Option Position) (distance : ℕ) → PositionFits p → ShareFits (behind p distance)
 unfolding behind ShareFits
-behind-fits Unknown distance f = tt
-behind-fits (Between front rear) distance f = let h : rear < 2 ^ 32 = f.1 in omega arith
+behind-fits None distance f = tt
+behind-fits (Some p) distance f = let h : rear < 2 ^ 32 = f.1 in omega arith
 
 either_fits : (b : Bool) (x y : Share) → ShareFits x → ShareFits y → ShareFits (cond b x y)
 either_fits true x y f g = f

@@ -1,4 +1,5 @@
 -- Laws of the view: its rows are the register's, and a search of it finds what a search of the register does.
+use Rattle.std.specs.Prelude.{Option, None, Some}
 use Prim.Native.Nat.{ℕ, zero, suc, ◌+◌, ◌*◌, ◌≤◌, ◌<◌}
 use mathlib.Core.Bool.{Bool, true, false, cond}
 use mathlib.Core.List.{List}
@@ -11,8 +12,6 @@ use Rattle.register.specs.Register.{row_of, sought_at, found_in}
 use Rattle.trains.specs.Sought.{row_count, is_sought}
 use Rattle.rows.specs.Row.{row_bytes}
 use Rattle.rows.proofs.FitLaws.{Fits, fits_read}
-use Rattle.kinds.specs.declared.found.Found.{Found}
-use Rattle.kinds.specs.declared.found.Found.TheVariants.{Nothing, Index}
 use Rattle.kinds.specs.Found.{first}
 use Rattle.trains.specs.Record.{blank_train}
 use Rattle.kinds.proofs.FoundLaws.{Before, first_below, first-true, first-before}
@@ -54,7 +53,7 @@ first-same : (p q : ℕ → Bool) (i n : ℕ) → ((k : ℕ) → i ≤ k → k <
 unfolding first
 first-same p q i zero h = refl
 first-same p q i (suc n) h =
-    λ j. cond (h i (omega arith) (omega arith) j) (Index i) (first-same p q (suc i) n (λ k l u. h k (omega arith) (omega arith)) j)
+    λ j. cond (h i (omega arith) (omega arith) j) (Some i) (first-same p q (suc i) n (λ k l u. h k (omega arith) (omega arith)) j)
 
 -- a search of the view is the search of the register
 pub find_in_lem : (bs : List ℕ) (sought : Sought) → find_in (view_of bs) sought ≡ found_in bs register_at sought
@@ -65,20 +64,20 @@ find_in_lem bs sought =
 
 module _ (v : View) (sought : Sought) where
   -- what is found is one of the 24 rows
-  pub find_below : (i : ℕ) → find_in v sought ≡ Index i → i < row_count
+  pub find_below : (i : ℕ) → find_in v sought ≡ Some i → i < row_count
   unfolding find_in
   find_below i e = omega (arith, first_below (sought_in v sought) 0 row_count i e)
 
   -- and holds what is sought
-  pub find_holds : (i : ℕ) → find_in v sought ≡ Index i → is_sought sought (row_in v i) ≡ true
+  pub find_holds : (i : ℕ) → find_in v sought ≡ Some i → is_sought sought (row_in v i) ≡ true
   unfolding find_in sought_in
   find_holds i e = first-true (sought_in v sought) 0 row_count i e
 
   -- where nothing is found, no row does
-  pub find_none : find_in v sought ≡ Nothing → (k : ℕ) → k < row_count → is_sought sought (row_in v k) ≡ false
+  pub find_none : find_in v sought ≡ None → (k : ℕ) → k < row_count → is_sought sought (row_in v k) ≡ false
   unfolding find_in sought_in
   find_none e k l =
-      first-before (sought_in v sought) 0 row_count k (omega arith) (omega arith) (subst (λ (f : Found). Before k f) (sym e) tt)
+      first-before (sought_in v sought) 0 row_count k (omega arith) (omega arith) (subst (λ (f : Option ℕ). Before k f) (sym e) tt)
 
 -- ---- the ring
 

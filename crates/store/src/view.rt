@@ -46,21 +46,21 @@ pub fn train(s: &[u8], i: usize) -> Train
 }
 
 // The first row that holds a loco and a ticket together.
-pub fn find(s: &[u8], loco: Loco, ticket: Ticket) -> Found
+pub fn find(s: &[u8], loco: Loco, ticket: Ticket) -> Option<usize>
     ensures { result ≡ find_in (view_of s.now) (Pair loco ticket) }
 {
     register::find(s, layout::REGISTER, loco, ticket)
 }
 
 // The first row with a loco number.
-pub fn find_loco(s: &[u8], loco: Loco) -> Found
+pub fn find_loco(s: &[u8], loco: Loco) -> Option<usize>
     ensures { result ≡ find_in (view_of s.now) (Number loco) }
 {
     register::find_loco(s, layout::REGISTER, loco)
 }
 
 // The first empty row.
-pub fn find_empty(s: &[u8]) -> Found
+pub fn find_empty(s: &[u8]) -> Option<usize>
     ensures { result ≡ find_in (view_of s.now) Empty }
 {
     register::find_empty(s, layout::REGISTER)

@@ -69,10 +69,10 @@ fn all_cells() {
     }
 }
 
-fn limit(l: Limit) {
+fn limit(l: Option<u32>) {
     match l {
-        Limit::Bare => text(b" bare"),
-        Limit::To(x) => number(x),
+        None => text(b" bare"),
+        Some(x) => number(x),
     }
 }
 
@@ -84,17 +84,17 @@ fn share(s: Share) {
     }
 }
 
-fn location(p: Location) {
+fn location(p: Option<u32>) {
     match p {
-        Location::Nowhere => text(b" none"),
-        Location::At(x) => number(x),
+        None => text(b" none"),
+        Some(x) => number(x),
     }
 }
 
-fn found(f: Found) {
+fn found(f: Option<usize>) {
     match f {
-        Found::Nothing => text(b" nothing"),
-        Found::Index(i) => {
+        None => text(b" nothing"),
+        Some(i) => {
             text(b" ");
             io::print_decimal(STANDARD_OUTPUT, i as u64);
         }
@@ -109,8 +109,8 @@ fn first_train() -> Train {
 fn second_train() -> Train {
     Train::fresh(Loco(8), Ticket(2), Slot(3), 1)
         .with_mode(names::FS)
-        .with_authority(Location::At(9000))
-        .with_danger(Location::At(7500))
+        .with_authority(Some(9000))
+        .with_danger(Some(7500))
 }
 
 fn share_line(measure: u32, l1: Train, l2: Train) {
@@ -159,9 +159,9 @@ fn ends() {
     text(b"ends");
     location(train.end());
     location(override_on.end());
-    location(override_on.with_order(Ticket(1), Limit::Bare).end());
-    location(override_on.with_order(Ticket(1), Limit::To(8000)).end());
-    location(train.with_authority(Location::Nowhere).end());
+    location(override_on.with_order(Ticket(1), None).end());
+    location(override_on.with_order(Ticket(1), Some(8000)).end());
+    location(train.with_authority(None).end());
     end_line();
 }
 
@@ -184,15 +184,15 @@ fn order_line(train: Train) {
 // Four orders fill the places; the same other ticket replaces, and a cleared place is free again.
 fn all_orders() {
     let two = second_train()
-        .with_order(Ticket(3), Limit::To(700))
-        .with_order(Ticket(4), Limit::Bare);
+        .with_order(Ticket(3), Some(700))
+        .with_order(Ticket(4), None);
     let four = two
-        .with_order(Ticket(5), Limit::To(800))
-        .with_order(Ticket(6), Limit::To(600));
+        .with_order(Ticket(5), Some(800))
+        .with_order(Ticket(6), Some(600));
     order_line(two);
     order_line(four);
-    order_line(four.with_order(Ticket(9), Limit::To(1)));
-    order_line(four.with_order(Ticket(6), Limit::To(900)));
+    order_line(four.with_order(Ticket(9), Some(1)));
+    order_line(four.with_order(Ticket(6), Some(900)));
     order_line(four.order_cleared(Ticket(3)));
     order_line(four.order_cleared(Ticket(0)));
 }

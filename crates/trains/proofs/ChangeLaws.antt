@@ -1,11 +1,11 @@
 -- What each change of a record leaves alone.
+use Rattle.std.specs.Prelude.{Option}
 use Prim.Native.Nat.{ℕ}
 use mathlib.Core.List.{List}
 use mathlib.Core.Path.{◌≡◌, refl}
 use borrow.Author.Tests.{eq-eqb, ne_eqb}
 use Rattle.transitions.specs.Names.{OV}
 use Rattle.trains.specs.declared.record.Order.{Order}
-use Rattle.kinds.specs.declared.ranges.Location.{Location}
 use Rattle.trains.specs.declared.record.Track.{Track}
 use Rattle.trains.specs.declared.record.Train.{Train}
 use Rattle.trains.specs.Changes.{changed, on_track, reported, authorised, endangered, left_for, with_mode}
@@ -31,11 +31,11 @@ pub position-leaves : (k : Track) (front rear : ℕ) → let u = reported k fron
 position-leaves k front rear = (refl, refl)
 
 -- an authority leaves position and danger location
-pub authority-leaves : (k : Track) (end : Location) → let u = authorised k end in (u.position ≡ k.position) × (u.danger ≡ k.danger)
+pub authority-leaves : (k : Track) (end : Option ℕ) → let u = authorised k end in (u.position ≡ k.position) × (u.danger ≡ k.danger)
 authority-leaves k end = (refl, refl)
 
 -- a danger location leaves position and authority
-pub danger-leaves : (k : Track) (danger : Location) → let u = endangered k danger in (u.position ≡ k.position) × (u.granted ≡ k.granted)
+pub danger-leaves : (k : Track) (danger : Option ℕ) → let u = endangered k danger in (u.position ≡ k.position) × (u.granted ≡ k.granted)
 danger-leaves k danger = (refl, refl)
 
 -- an order put or cleared leaves the mode, the mode left and the track

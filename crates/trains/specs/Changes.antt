@@ -1,9 +1,8 @@
 -- A train record with one part changed. Loco, ticket and slots never change.
 use mathlib.Core.{Bool.cond, List.List}
-use Rattle.std.specs.Prelude.{ℕ, eqb}
+use Rattle.std.specs.Prelude.{ℕ, eqb, Option, Some}
 use Rattle.transitions.specs.Names.{OV}
-use Rattle.kinds.specs.declared.ranges.Location.{Location}
-use Rattle.trains.specs.{declared.record.Position.TheVariants.Between, declared.record.Order.Order, declared.record.Track.Track}
+use Rattle.trains.specs.{declared.record.Order.Order, declared.record.Track.Track}
 use Rattle.trains.specs.declared.record.Train.{Train}
 
 -- the same train with the mode, the mode left, the track and the orders given
@@ -25,14 +24,14 @@ on_track t track = changed t t.mode t.left track t.orders
 
 -- the track with a position reported
 abbrev pub reported : Track → ℕ → ℕ → Track
-reported k front rear = record { position = Between front rear; granted = k.granted; danger = k.danger }
+reported k front rear = record { position = Some (record { front = front; rear = rear }); granted = k.granted; danger = k.danger }
 
 -- the track with an authority granted, or none
-abbrev pub authorised : Track → Location → Track
+abbrev pub authorised : Track → Option ℕ → Track
 authorised k end = record { position = k.position; granted = end; danger = k.danger }
 
 -- the track with a danger location, or none
-abbrev pub endangered : Track → Location → Track
+abbrev pub endangered : Track → Option ℕ → Track
 endangered k danger = record { position = k.position; granted = k.granted; danger = danger }
 
 -- a position reported
@@ -40,11 +39,11 @@ abbrev pub with_position : Train → ℕ → ℕ → Train
 with_position t front rear = on_track t (reported t.track front rear)
 
 -- an authority granted, or none
-abbrev pub with_authority : Train → Location → Train
+abbrev pub with_authority : Train → Option ℕ → Train
 with_authority t end = on_track t (authorised t.track end)
 
 -- a danger location, or none
-abbrev pub with_danger : Train → Location → Train
+abbrev pub with_danger : Train → Option ℕ → Train
 with_danger t danger = on_track t (endangered t.track danger)
 
 -- the mode left is kept exactly while the mode is OV

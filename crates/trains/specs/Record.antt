@@ -1,10 +1,10 @@
 -- The records that are made anew: no order, a blank row's record, and a train just granted.
 use mathlib.Core.{Bool.Bool, List.List, List.[], List.◌∷◌}
-use Rattle.std.specs.Prelude.{ℕ, get_or}
+use Rattle.std.specs.Prelude.{ℕ, get_or, None}
 use Rattle.transitions.specs.Names.{SB}
-use Rattle.kinds.specs.{declared.Loco.Loco, declared.Ticket.Ticket, declared.Slot.Slot, declared.ranges.Location.TheVariants.Nowhere}
+use Rattle.kinds.specs.{declared.Loco.Loco, declared.Ticket.Ticket, declared.Slot.Slot}
 use Rattle.kinds.specs.Kinds.{no_loco, same_loco}
-use Rattle.trains.specs.{declared.record.Position.TheVariants.Unknown, declared.record.Limit.TheVariants.Bare, declared.record.Order.Order}
+use Rattle.trains.specs.{declared.record.Order.Order}
 use Rattle.trains.specs.{declared.record.Track.Track, declared.record.Train.Train}
 
 -- the ticket that no grant gives: an order under it is none
@@ -13,7 +13,7 @@ no_ticket = record { 0 = 0 }
 
 -- what stands in a free place of the orders
 abbrev pub no_order : Order
-no_order = record { other = no_ticket; limit = Bare }
+no_order = record { other = no_ticket; limit = None }
 
 abbrev pub order_count : ℕ  -- a train has four places for orders
 order_count = 4
@@ -24,7 +24,7 @@ order_at os i = get_or os i no_order
 
 -- no position, authority or danger location
 abbrev pub no_track : Track
-no_track = record { position = Unknown; granted = Nowhere; danger = Nowhere }
+no_track = record { position = None; granted = None; danger = None }
 
 -- a train in a mode that it was not overridden from, with no position, authority, danger location or order
 abbrev pub plain_train : Loco → Ticket → Slot → ℕ → ℕ → Train

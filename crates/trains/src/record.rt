@@ -2,36 +2,29 @@
 ghost use Rattle.std.specs.Prelude.{◌≡◌};
 ghost use Rattle.trains.specs.Record.{no_order, no_track, plain_train, blank_train, fresh_train};
 
-use kinds::ranges::Location;
 use kinds::{Loco, Slot, Ticket};
 
-// Front and rear, or none reported.
+// Where a train reported that it stands, in metres.
 #[derive(Clone, Copy)]
-pub enum Position {
-    Unknown,
-    Between(u32, u32),
+pub struct Position {
+    pub front: u32,
+    pub rear: u32,
 }
 
-// An order is a limit in metres, or bare.
-#[derive(Clone, Copy)]
-pub enum Limit {
-    Bare,
-    To(u32),
-}
-
-// An order under the other train's ticket. Ticket 0, which no grant gives, is no order: its place is free.
+// An order under the other train's ticket: a limit in metres, or a bare one. Ticket 0, which no grant gives, is no order: its place is free. It is no
+// Option of an order, since foreign bytes may hold a limit in a free place too, and `kb_train` tells it.
 #[derive(Clone, Copy)]
 pub struct Order {
     pub other: Ticket,
-    pub limit: Limit,
+    pub limit: Option<u32>,
 }
 
-// Where a train is, how far it may go, and the danger location ahead of it.
+// Where a train is, how far it may go, and the danger location ahead of it; each may be missing.
 #[derive(Clone, Copy)]
 pub struct Track {
-    pub position: Position,
-    pub granted: Location,
-    pub danger: Location,
+    pub position: Option<Position>,
+    pub granted: Option<u32>,
+    pub danger: Option<u32>,
 }
 
 // `left` is the mode left for Override, and 0 in any other mode. An empty register row has loco 0.
@@ -53,7 +46,7 @@ impl Order {
     {
         Order {
             other: Ticket(0),
-            limit: Limit::Bare,
+            limit: None,
         }
     }
 }
@@ -64,9 +57,9 @@ impl Track {
         ensures { result ≡ no_track }
     {
         Track {
-            position: Position::Unknown,
-            granted: Location::Nowhere,
-            danger: Location::Nowhere,
+            position: None,
+            granted: None,
+            danger: None,
         }
     }
 }
@@ -76,17 +69,15 @@ impl Train {
     fn plain(loco: Loco, ticket: Ticket, start: Slot, slots: u32, mode: u32) -> Train
         ensures { result ≡ plain_train loco ticket start slots mode }
     {
-        let none = Order::none();
-        let track = Track::none();
         Train {
-            loco: loco,
-            ticket: ticket,
-            start: start,
-            slots: slots,
-            mode: mode,
+            loco,
+            ticket,
+            start,
+            slots,
+            mode,
             left: 0,
-            track: track,
-            orders: [none, none, none, none],
+            track: Track::none(),
+            orders: [Order::none(); 4],
         }
     }
 

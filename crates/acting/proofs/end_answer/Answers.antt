@@ -3,10 +3,10 @@ use mathlib.Core.Path.{sym, ap, ◌∙◌}
 use Rattle.rules.specs.Deeds.{end_answer}
 use Rattle.acting.proofs.end_answer.Goals as goal
 
-pub returns-in-Nowhere : goal.returns-in-Nowhere
+pub returns-in-None : goal.returns-in-None
 unfolding end_answer
-returns-in-Nowhere c = c.accepted.ensures ∙ sym (ap end_answer c.in-Nowhere.is)
+returns-in-None c = c.accepted.ensures ∙ sym (ap end_answer c.in-None.is)
 
-pub returns-in-At : goal.returns-in-At
+pub returns-in-Some : goal.returns-in-Some
 unfolding end_answer
-returns-in-At c = c.accepted-in-At.ensures ∙ sym (ap end_answer c.in-At.is)
+returns-in-Some c = c.accepted-in-Some.ensures ∙ sym (ap end_answer c.in-Some.is)

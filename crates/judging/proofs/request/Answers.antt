@@ -1,4 +1,5 @@
 -- `judging::request` meets its contract: at each way out the checks before it are passed.
+use Rattle.std.specs.Prelude.{is_some}
 use mathlib.Core.Path.{◌≡◌, refl, sym, ap, ◌∙◌}
 use mathlib.Core.Bool.{true, false, not}
 use mathlib.Core.List.{List}
@@ -6,7 +7,6 @@ use Prim.Native.Nat.{ℕ, suc}
 use native.Mathlib.Numerals.{add-one}
 use native.Mathlib.Omega.{arith}
 use borrow.Author.Tests.{ltb-true}
-use Rattle.kinds.specs.Found.{is_found}
 use Rattle.kinds.specs.Kinds.{last_ticket, is_above, loco_in_range}
 use Rattle.kinds.specs.declared.Loco.{Loco}
 use Rattle.kinds.specs.declared.Ticket.{Ticket}
@@ -15,7 +15,7 @@ use Rattle.rules.specs.Refusals.{bad_loco, bad_bytes, already_registered}
 use Rattle.rules.specs.Registering.{ticket_of, ticket_for, request_ground, row_of_found, granted, requested}
 use Rattle.rules.specs.Ruling.{when, unless, refused}
 use Rattle.rules.specs.Rules.{Op, ground_of, done_by, rule}
-use Rattle.rules.specs.Slots.{is_request, lowest_run, is_run_found, start_of}
+use Rattle.rules.specs.Slots.{is_request, lowest_run, start_of}
 use Rattle.rules.specs.View.{find_in}
 use Rattle.rules.specs.declared.ruling.Ruling.{Ruling}
 use Rattle.rules.specs.declared.settings.Settings.{Settings}
@@ -41,11 +41,11 @@ module _ (s : Settings) (bs : List ℕ) (loco : Loco) (bytes : ℕ) (r : Ruling)
 past : (c : Else-is_there) (next : ℕ) → let a = c.args in
     next ≡ unless (loco_in_range a.loco) bad_loco
     (unless (is_request a.settings.carries a.bytes) bad_bytes
-    (when (is_found (find_in (view_of a.s.now) (Number a.loco))) already_registered next))
+    (when (is_some (find_in (view_of a.s.now) (Number a.loco))) already_registered next))
 past c next =
     let asked = c in
     let named = asked in
-    goes_on_lem _ _ _ (sym (c.is_there.ensures ∙ ap is_found c.find_loco.ensures) ∙ c.if-is_there.false)
+    goes_on_lem _ _ _ (sym (c.is_there.ensures ∙ ap is_some c.find_loco.ensures) ∙ c.if-is_there.false)
     ∙ goes_on-unless _ _ _ _ asked.is_request.ensures (ap not asked.if-not-is_request.false)
     ∙ goes_on-unless _ _ _ _ named.in_range.ensures (ap not named.if-not-in_range.false)
 
@@ -69,61 +69,61 @@ returns-then-is_there c =
     let asked = c in
     let named = asked in
     refusing _ _ _ _ _ _ _ c.refused-then-is_there.ensures named.counter-counter.ensures
-    (stops _ _ _ (sym (c.is_there.ensures ∙ ap is_found c.find_loco.ensures) ∙ c.if-is_there.true)
+    (stops _ _ _ (sym (c.is_there.ensures ∙ ap is_some c.find_loco.ensures) ∙ c.if-is_there.true)
     ∙ goes_on-unless _ _ _ _ asked.is_request.ensures (ap not asked.if-not-is_request.false)
     ∙ goes_on-unless _ _ _ _ named.in_range.ensures (ap not named.if-not-in_range.false))
 
 pub returns-in_default : goal.returns-in_default
-unfolding request_ground is_found
+unfolding request_ground
 returns-in_default c =
     let known = c in
     refusing _ _ _ _ _ _ _ c.refused-in_default.ensures known.counter-counter.ensures
-    (stops-unless false _ _ _ (ap is_found (sym c.in_default.is ∙ c.find_empty.ensures)) refl ∙ past (goal.at.returns-in_default c).Else-is_there _)
+    (stops-unless false _ _ _ (ap is_some (sym c.in_default.is ∙ c.find_empty.ensures)) refl ∙ past (goal.at.returns-in_default c).Else-is_there _)
 
 pub returns-then-not-is_above : goal.returns-then-not-is_above
-unfolding request_ground is_found
+unfolding request_ground
 returns-then-not-is_above c =
     let found = c in
     let known = found in
     let counter = known.counter-counter.ensures in
     refusing _ _ _ _ _ _ _ c.refused-then-not-is_above.ensures counter
     (stops-unless _ _ _ _ (c.is_above.ensures ∙ ap (is_above (ticket_of last_ticket)) counter) (ap not c.if-not-is_above.true)
-    ∙ goes_on-unless true _ _ _ (ap is_found (sym c.in-Index.is ∙ found.find_empty.ensures)) refl
+    ∙ goes_on-unless true _ _ _ (ap is_some (sym c.in-Some.is ∙ found.find_empty.ensures)) refl
     ∙ past (goal.at.returns-then-not-is_above c).Else-is_there _)
 
-pub returns-in-NoRun : goal.returns-in-NoRun
-unfolding request_ground is_found is_run_found view_of
-returns-in-NoRun c =
+pub returns-in-None : goal.returns-in-None
+unfolding request_ground view_of
+returns-in-None c =
     let free = c in
     let row = free in
     let known = row in
     let counter = known in
-    let run = sym c.in-NoRun.is ∙ c.lowest_run.ensures
+    let run = sym c.in-None.is ∙ c.lowest_run.ensures
     ∙ ap (lowest_run (book_of counter.args.s.now)) c.slots_for-wanted.ensures in
-    refusing _ _ _ _ _ _ _ c.refused-in-NoRun.ensures counter.counter-counter.ensures
-    (stops-unless false _ _ _ (ap is_run_found run) refl
+    refusing _ _ _ _ _ _ _ c.refused-in-None.ensures counter.counter-counter.ensures
+    (stops-unless false _ _ _ (ap is_some run) refl
     ∙ goes_on-unless _ _ _ _ (free.is_above.ensures ∙ ap (is_above (ticket_of last_ticket)) counter.counter-counter.ensures) (ap not free.if-not-is_above.false)
-    ∙ goes_on-unless true _ _ _ (ap is_found (sym row.in-Index.is ∙ row.find_empty.ensures)) refl
-    ∙ past (goal.at.returns-in-NoRun c).Else-is_there _)
+    ∙ goes_on-unless true _ _ _ (ap is_some (sym row.in-Some.is ∙ row.find_empty.ensures)) refl
+    ∙ past (goal.at.returns-in-None c).Else-is_there _)
 
-pub returns-in-From : goal.returns-in-From
-unfolding request_ground is_found is_run_found view_of row_of_found start_of ticket_for
-returns-in-From c =
+pub returns-in-Some : goal.returns-in-Some
+unfolding request_ground view_of row_of_found start_of ticket_for
+returns-in-Some c =
     let free = c in
     let row = free in
     let known = row in
     let counter = known in
     let a = counter.args in
     let wanted = c.slots_for-wanted.ensures in
-    let place = sym row.in-Index.is ∙ row.find_empty.ensures in
-    let run = sym c.in-From.is ∙ c.lowest_run.ensures ∙ ap (lowest_run (book_of a.s.now)) wanted in
+    let place = sym row.in-Some.is ∙ row.find_empty.ensures in
+    let run = sym c.in-Some.is ∙ c.lowest_run.ensures ∙ ap (lowest_run (book_of a.s.now)) wanted in
     granting _ _ _ _ _
     (c.grant.ensures
     ∙ (λ i. granted a.loco (wanted i) ((ap ticket_of (add-one _) ∙ ap ticket_for counter.counter-counter.ensures) i) (row_of_found (place i)) (start_of (run i))))
-    (goes_on-unless true _ _ _ (ap is_run_found run) refl
+    (goes_on-unless true _ _ _ (ap is_some run) refl
     ∙ goes_on-unless _ _ _ _ (free.is_above.ensures ∙ ap (is_above (ticket_of last_ticket)) counter.counter-counter.ensures) (ap not free.if-not-is_above.false)
-    ∙ goes_on-unless true _ _ _ (ap is_found place) refl
-    ∙ past (goal.at.returns-in-From c).Else-is_there _)
+    ∙ goes_on-unless true _ _ _ (ap is_some place) refl
+    ∙ past (goal.at.returns-in-Some c).Else-is_there _)
 
 pub overflow_add-counter : goal.overflow_add-counter
 overflow_add-counter c =

@@ -3,10 +3,10 @@ use mathlib.Core.Path.{sym, ap}
 use Rattle.host.specs.Told.{limit_number}
 use Rattle.host.proofs.told.limit_number.Goals as goal
 
-pub returns-in-Bare : goal.returns-in-Bare
+pub returns-in-None : goal.returns-in-None
 unfolding limit_number
-returns-in-Bare c = sym (ap limit_number c.in-Bare.is)
+returns-in-None c = sym (ap limit_number c.in-None.is)
 
-pub returns-in-To : goal.returns-in-To
+pub returns-in-Some : goal.returns-in-Some
 unfolding limit_number
-returns-in-To c = sym (ap limit_number c.in-To.is)
+returns-in-Some c = sym (ap limit_number c.in-Some.is)

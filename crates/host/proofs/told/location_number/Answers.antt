@@ -3,10 +3,10 @@ use mathlib.Core.Path.{sym, ap}
 use Rattle.host.specs.Told.{location_number}
 use Rattle.host.proofs.told.location_number.Goals as goal
 
-pub returns-in-Nowhere : goal.returns-in-Nowhere
+pub returns-in-None : goal.returns-in-None
 unfolding location_number
-returns-in-Nowhere c = sym (ap location_number c.in-Nowhere.is)
+returns-in-None c = sym (ap location_number c.in-None.is)
 
-pub returns-in-At : goal.returns-in-At
+pub returns-in-Some : goal.returns-in-Some
 unfolding location_number
-returns-in-At c = sym (ap location_number c.in-At.is)
+returns-in-Some c = sym (ap location_number c.in-Some.is)

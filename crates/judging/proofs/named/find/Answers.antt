@@ -15,5 +15,5 @@ pub returns : goal.returns
 unfolding named_in in_row
 returns c =
     let a = c.args in
-    (λ i. record { loco = a.loco; live = true; row = c.in-Index.row; train = c.train-train.ensures i })
-    ∙ ap (in_row a.loco (view_of a.s.now)) (sym c.in-Index.is ∙ c.find.ensures)
+    (λ i. record { loco = a.loco; live = true; row = c.in-Some.row; train = c.train-train.ensures i })
+    ∙ ap (in_row a.loco (view_of a.s.now)) (sym c.in-Some.is ∙ c.find.ensures)

@@ -3,7 +3,7 @@ use mathlib.Core.Path.{◌≡◌, ◌∙◌}
 use Prim.Native.Nat.{◌+◌, ◌*◌}
 use native.Mathlib.Omega.{arith}
 use Rattle.numbers.specs.Pieces.{unpack}
-use Rattle.rows.specs.Parts.{bits, flagged_sizes, limit_of}
+use Rattle.rows.specs.Parts.{bits, flagged_sizes, optional_of}
 use Rattle.rows.proofs.row.order_at.Goals as goal
 
 pub returns : goal.returns
@@ -13,5 +13,5 @@ returns c =
     let e : 8 * (a.i + 4) ≡ 8 * a.i + 32 = omega arith in
     λ k. record {
       other = record { 0 = c.word_at.ensures k };
-      limit = (c.limit_at.ensures ∙ (λ j. limit_of (unpack a.s.now (e j) (bits flagged_sizes)))) k;
+      limit = (c.optional_at.ensures ∙ (λ j. optional_of (unpack a.s.now (e j) (bits flagged_sizes)))) k;
     }

@@ -1,8 +1,8 @@
 -- `rows::row::position_at` meets its contract.
+use Rattle.std.specs.Prelude.{Some}
 use mathlib.Core.Path.{sym, ◌∙◌}
 use borrow.Author.Tests.{eq-eqb, ne_eqb}
 use Rattle.numbers.specs.Pieces.{unpack}
-use Rattle.trains.specs.declared.record.Position.TheVariants.{Between}
 use Rattle.rows.specs.Parts.{position_of}
 use Rattle.rows.proofs.row.position_at.Goals as goal
 
@@ -13,5 +13,5 @@ returns-then-byte_at-eq0 c = simp (eq-eqb _ _ (sym c.byte_at.ensures ∙ c.if-by
 pub returns : goal.returns
 unfolding unpack position_of
 returns c =
-    (λ k. Between (c.word_at.ensures k) (c.word_at-2.ensures k))
+    (λ k. Some (record { front = c.word_at.ensures k; rear = c.word_at-2.ensures k }))
     ∙ simp (ne_eqb _ _ (λ e. c.if-byte_at-eq0.false (c.byte_at.ensures ∙ e)))

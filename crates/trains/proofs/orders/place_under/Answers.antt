@@ -2,27 +2,19 @@
 use mathlib.Core.Path.{refl, sym, ◌∙◌}
 use Rattle.trains.specs.Orders.{stands_under, place_under}
 use Rattle.kinds.proofs.FoundLaws.{first_hit, first_miss, first-end}
-use borrow.Author.Rules.{rules}
 use Rattle.trains.proofs.orders.place_under.Goals as goal
 
 pub loop-i-init : goal.loop-i-init
 unfolding place_under
-loop-i-init c = (search rules, refl)
+loop-i-init c = refl
 
-pub returns-then-is : goal.returns-then-is
+pub returns-then-eq : goal.returns-then-eq
 unfolding stands_under
-returns-then-is c =
-    sym
-    (c.loop-i.invariant.1
-    ∙ first_hit _ _ _ c.loop-i-test.true (sym c.is.ensures ∙ c.if-is.true))
+returns-then-eq c = sym (c.loop-i.invariant ∙ first_hit _ _ _ c.loop-i-test.true (sym c.eq.ensures ∙ c.if-eq.true))
 
 pub loop-i-preserved : goal.loop-i-preserved
 unfolding stands_under
-loop-i-preserved c = (
-  search rules,
-  c.loop-i.invariant.1
-      ∙ first_miss _ _ _ c.loop-i-test.true (sym c.is.ensures ∙ c.if-is.false),
-)
+loop-i-preserved c = c.loop-i.invariant ∙ first_miss _ _ _ c.loop-i-test.true (sym c.eq.ensures ∙ c.if-eq.false)
 
 pub returns : goal.returns
-returns c = sym (c.loop-i.invariant.1 ∙ first-end _ _ _ c.loop-i-test.false)
+returns c = sym (c.loop-i.invariant ∙ first-end _ _ _ c.loop-i-test.false)
