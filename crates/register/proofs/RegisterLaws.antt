@@ -2,18 +2,17 @@
 -- exactly where no row holds it.
 use Rattle.std.specs.Prelude.{Option, None, Some}
 use Prim.Native.Nat.{ℕ, ◌+◌, ◌*◌, ◌≤◌, ◌<◌}
-use mathlib.Core.Bool.{Bool, true, false, not, ◌&&◌, ◌||◌, and-true, and-false, and-eq-true_iff}
+use mathlib.Core.Bool.{Bool, true, false, not, ◌&&◌, and-true, and-false, and-eq-true_iff}
 use mathlib.Core.List.{List}
 use mathlib.Core.Path.{◌≡◌, refl, sym, ap, subst, ◌∙◌}
 use native.Mathlib.Omega.{arith}
-use borrow.Author.Tests.{eqb-true, eqb-false, ne_eqb, not-true}
+use borrow.Author.Tests.{eqb-true, eqb-false, not-true}
 use lib.Dec.{eqb}
 use Rattle.numbers.specs.Numbers.{number_at}
 use Rattle.kinds.specs.declared.Loco.{Loco}
 use Rattle.kinds.specs.declared.Ticket.{Ticket}
 use Rattle.trains.specs.declared.record.Train.{Train}
 use Rattle.kinds.specs.Kinds.{last_ticket, no_loco, same_loco, same_ticket, ticket_in_range}
-use Rattle.trains.specs.Record.{no_ticket}
 use Rattle.kinds.proofs.FoundLaws.{Before, first_below, first-true, first-before, first-none}
 use Rattle.kinds.proofs.RangeLaws.{one-to}
 use Rattle.trains.specs.declared.sought.Sought.{Sought}
@@ -21,7 +20,7 @@ use Rattle.trains.specs.declared.sought.Sought.TheVariants.{Pair, Number, Empty}
 use Rattle.trains.specs.Sought.{row_count, holds_loco, is_sought}
 use Rattle.kinds.specs.Found.{first}
 use Rattle.rows.specs.Row.{row_bytes}
-use Rattle.register.specs.Register.{row_of, row_holds, searched, sought_at, found_in}
+use Rattle.register.specs.Register.{is_asked, row_of, row_holds, searched, sought_at, found_in}
 use Rattle.rows.proofs.Bytewise.{at_bit}
 use Rattle.rows.proofs.RowLaws.{row_parts}
 
@@ -89,11 +88,11 @@ pub ticket_word : (s : List ℕ) (at i : ℕ) → number_at 4 s (at + row_bytes 
 ticket_word s at i = sym (ap (λ (t : Train). t.ticket.0) (row_parts s (at + row_bytes * i)))
 
 -- rows with a loco and a ticket are those that hold what is sought, where that is so of every record
-pub searched_sought : (s : List ℕ) (at : ℕ) (loco : Loco) (ticket : Ticket) (sought : Sought)
-    → ((t : Train) → same_loco t.loco loco && (same_ticket ticket no_ticket || same_ticket t.ticket ticket) ≡ is_sought sought t)
-    → searched s at loco ticket ≡ found_in s at sought
+pub searched_sought : (s : List ℕ) (at : ℕ) (loco : Loco) (asked : Option Ticket) (sought : Sought)
+    → ((t : Train) → same_loco t.loco loco && is_asked asked t.ticket ≡ is_sought sought t)
+    → searched s at loco asked ≡ found_in s at sought
 unfolding searched row_holds found_in sought_at
-searched_sought s at loco ticket sought h = λ i. first (λ (k : ℕ). h (row_of s at k) i) 0 row_count
+searched_sought s at loco asked sought h = λ i. first (λ (k : ℕ). h (row_of s at k) i) 0 row_count
 
 -- a row holds the loco number that it has, but for that of an empty row
 held : (l wanted : Loco) → holds_loco l wanted ≡ not (same_loco wanted no_loco) && same_loco l wanted
@@ -116,17 +115,15 @@ pub pair_out : (loco : Loco) (ticket : Ticket) (t : Train) → ticket_in_range t
 unfolding is_sought
 pair_out loco ticket t e = rw (e, and-false (holds_loco t.loco loco)) refl
 
-pub empty-same : (t : Train) → same_loco t.loco no_loco && true ≡ is_sought Empty t
-unfolding is_sought
+pub empty-same : (t : Train) → same_loco t.loco no_loco && is_asked None t.ticket ≡ is_sought Empty t
+unfolding is_sought is_asked
 empty-same t = and-true (same_loco t.loco no_loco)
 
-pub number_same : (loco : Loco) → same_loco loco no_loco ≡ false → (t : Train) → same_loco t.loco loco && true ≡ is_sought (Number loco) t
-unfolding is_sought
+pub number_same : (loco : Loco) → same_loco loco no_loco ≡ false → (t : Train) → same_loco t.loco loco && is_asked None t.ticket ≡ is_sought (Number loco) t
+unfolding is_sought is_asked
 number_same loco e t = rw (held t.loco loco, e) (and-true (same_loco t.loco loco))
 
 pub pair_same : (loco : Loco) (ticket : Ticket) → same_loco loco no_loco ≡ false → ticket_in_range ticket ≡ true
-    → (t : Train) → same_loco t.loco loco && (same_ticket ticket no_ticket || same_ticket t.ticket ticket) ≡ is_sought (Pair loco ticket) t
-unfolding is_sought
-pair_same loco ticket e r t =
-    let n : same_ticket ticket no_ticket ≡ false = ne_eqb ticket.0 0 (λ z. omega (arith, (one-to last_ticket ticket.0 r).0)) in
-    rw (n, held t.loco loco, e, r, and-true (same_loco t.loco loco)) refl
+    → (t : Train) → same_loco t.loco loco && is_asked (Some ticket) t.ticket ≡ is_sought (Pair loco ticket) t
+unfolding is_sought is_asked
+pair_same loco ticket e r t = rw (held t.loco loco, e, r, and-true (same_loco t.loco loco)) refl

@@ -8,7 +8,6 @@ ghost use Rattle.trains.specs.declared.sought.Sought.TheVariants.{Pair, Number, 
 ghost use Rattle.rows.specs.Row.{row_bytes};
 ghost use Rattle.register.specs.Register.{row_holds, searched, found_in};
 
-use kinds::found::Found;
 use kinds::{Loco, Ticket};
 use rows::row;
 use trains::sought::ROWS;
@@ -24,29 +23,27 @@ fn word_in(register: &[u8], at: usize, i: usize, offset: usize) -> u32
     numbers::word_at(register, at + row::ROW * i + offset)
 }
 
-// Does row i have this loco number, and this ticket? Ticket 0 asks for no ticket. Most rows have another loco, and are passed by that alone.
-fn row_holds(register: &[u8], at: usize, i: usize, loco: Loco, ticket: Ticket) -> bool
+// Does row i have this loco number, and the ticket where one is asked for? Most rows have another loco, and are passed by that alone.
+fn row_holds(register: &[u8], at: usize, i: usize, loco: Loco, asked: Option<Ticket>) -> bool
     requires { i < row_count }
-    ensures { result ≡ row_holds register.now at loco ticket i }
+    ensures { result ≡ row_holds register.now at loco asked i }
 {
-    if !Loco(word_in(register, at, i, row::LOCO)).is(loco) {
+    if Loco(word_in(register, at, i, row::LOCO)) != loco {
         return false;
     }
-    if ticket.is(Ticket(0)) {
-        return true;
+    match asked {
+        None => true,
+        Some(ticket) => Ticket(word_in(register, at, i, row::TICKET)) == ticket,
     }
-    Ticket(word_in(register, at, i, row::TICKET)).is(ticket)
 }
 
-fn search(register: &[u8], at: usize, loco: Loco, ticket: Ticket) -> Option<usize>
-    ensures { result ≡ searched register.now at loco ticket }
+fn search(register: &[u8], at: usize, loco: Loco, asked: Option<Ticket>) -> Option<usize>
+    ensures { result ≡ searched register.now at loco asked }
 {
-    let mut i: usize = 0;
-    while i < ROWS {
-        if row_holds(register, at, i, loco, ticket) {
+    for i in 0..ROWS {
+        if row_holds(register, at, i, loco, asked) {
             return Some(i);
         }
-        i += 1;
     }
     None
 }
@@ -61,7 +58,7 @@ pub fn find(register: &[u8], at: usize, loco: Loco, ticket: Ticket) -> Option<us
     if !ticket.in_range() {
         return None;
     }
-    search(register, at, loco, ticket)
+    search(register, at, loco, Some(ticket))
 }
 
 // The first row with a loco number.
@@ -71,12 +68,12 @@ pub fn find_loco(register: &[u8], at: usize, loco: Loco) -> Option<usize>
     if loco.is_none() {
         return None;
     }
-    search(register, at, loco, Ticket(0))
+    search(register, at, loco, None)
 }
 
 // The first empty row.
 pub fn find_empty(register: &[u8], at: usize) -> Option<usize>
     ensures { result ≡ found_in register.now at Empty }
 {
-    search(register, at, Loco(0), Ticket(0))
+    search(register, at, Loco(0), None)
 }

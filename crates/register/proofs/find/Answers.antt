@@ -1,4 +1,5 @@
 -- `register::find` meets its contract.
+use Rattle.std.specs.Prelude.{Some}
 use mathlib.Core.Path.{sym, ◌∙◌}
 use Rattle.trains.specs.declared.sought.Sought.TheVariants.{Pair}
 use Rattle.register.specs.Register.{row_of}
@@ -19,5 +20,5 @@ pub returns : goal.returns
 returns c =
     let a = c.args in
     c.search.ensures
-    ∙ searched_sought _ _ a.loco a.ticket (Pair a.loco a.ticket)
+    ∙ searched_sought _ _ a.loco (Some a.ticket) (Pair a.loco a.ticket)
     (pair_same a.loco a.ticket (sym c.is_none.ensures ∙ c.if-is_none.false) (sym c.in_range.ensures ∙ c.if-not-in_range.false))

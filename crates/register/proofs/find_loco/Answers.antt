@@ -1,7 +1,7 @@
 -- `register::find_loco` meets its contract.
 use mathlib.Core.Path.{sym, ◌∙◌}
 use Rattle.trains.specs.declared.sought.Sought.TheVariants.{Number}
-use Rattle.trains.specs.Record.{no_ticket}
+use Rattle.std.specs.Prelude.{None}
 use Rattle.register.specs.Register.{row_of}
 use Rattle.register.proofs.RegisterLaws.{none_found, searched_sought, number-none, number_same}
 use Rattle.register.proofs.find_loco.Goals as goal
@@ -15,4 +15,4 @@ pub returns : goal.returns
 returns c =
     let a = c.args in
     c.search.ensures
-    ∙ searched_sought _ _ a.loco no_ticket (Number a.loco) (number_same a.loco (sym c.is_none.ensures ∙ c.if-is_none.false))
+    ∙ searched_sought _ _ a.loco None (Number a.loco) (number_same a.loco (sym c.is_none.ensures ∙ c.if-is_none.false))

@@ -1,33 +1,28 @@
 -- `register::row_holds` meets its contract.
-use mathlib.Core.Path.{ap, ◌∙◌}
+use mathlib.Core.Path.{sym, ap, ◌∙◌}
 use Prim.Native.Nat.{ℕ}
 use lib.Dec.{eqb}
-use Rattle.register.specs.Register.{row_holds}
+use borrow.Author.Tests.{not-true, not-false}
+use Rattle.register.specs.Register.{row_holds, is_asked}
 use Rattle.register.proofs.RegisterLaws.{loco_word, ticket_word}
 use Rattle.register.proofs.row_holds.Goals as goal
 
-pub returns-then-not-is : goal.returns-then-not-is
+pub returns-then-ne : goal.returns-then-ne
 unfolding row_holds
-returns-then-not-is c =
+returns-then-ne c =
     let a = c.args in
-    let same = c.is.ensures
-    ∙ ap (λ (n : ℕ). eqb n a.loco.0) (c.word_in.ensures ∙ loco_word a.register.now a.at a.i) in
-    simp (← same, c.if-not-is.true)
+    simp (← loco_word a.register.now a.at a.i, ← c.word_in.ensures, not-true _ (sym c.ne.ensures ∙ c.if-ne.true))
 
-pub returns-then-is : goal.returns-then-is
-unfolding row_holds
-returns-then-is c =
+pub returns-in-None : goal.returns-in-None
+unfolding row_holds is_asked
+returns-in-None c =
     let a = c.args in
-    let same = c.is.ensures
-    ∙ ap (λ (n : ℕ). eqb n a.loco.0) (c.word_in.ensures ∙ loco_word a.register.now a.at a.i) in
-    simp (← same, c.if-not-is.false, ← c.is-2.ensures, c.if-is.true)
+    simp (← loco_word a.register.now a.at a.i, ← c.word_in.ensures, not-false _ (sym c.ne.ensures ∙ c.if-ne.false), c.in-None.is)
 
-pub returns : goal.returns
-unfolding row_holds
-returns c =
+pub returns-in-Some : goal.returns-in-Some
+unfolding row_holds is_asked
+returns-in-Some c =
     let a = c.args in
-    let same = c.is.ensures
-    ∙ ap (λ (n : ℕ). eqb n a.loco.0) (c.word_in.ensures ∙ loco_word a.register.now a.at a.i) in
-    c.is-3.ensures
-    ∙ ap (λ (n : ℕ). eqb n a.ticket.0) (c.word_in-2.ensures ∙ ticket_word a.register.now a.at a.i)
-    ∙ simp (← same, c.if-not-is.false, ← c.is-2.ensures, c.if-is.false)
+    c.eq.ensures
+    ∙ ap (λ (n : ℕ). eqb n c.in-Some.ticket.0) (c.word_in-in-Some.ensures ∙ ticket_word a.register.now a.at a.i)
+    ∙ simp (← loco_word a.register.now a.at a.i, ← c.word_in.ensures, not-false _ (sym c.ne.ensures ∙ c.if-ne.false), c.in-Some.is)
