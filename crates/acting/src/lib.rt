@@ -5,7 +5,6 @@ ghost use Rattle.std.specs.Prelude.{◌≡◌};
 ghost use Rattle.rules.specs.Deeds.{meant, end_answer, changed_if, mode_stepped, done, deed_ground, deed_done, end_asked};
 ghost use Rattle.rules.specs.Ruling.{ruled};
 
-use kinds::ranges::Location;
 use kinds::{Slot, Ticket, ranges};
 use modes::Step;
 use rules::deeds::{Changed, Deed};

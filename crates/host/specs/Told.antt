@@ -1,6 +1,6 @@
 -- What a session tells of itself in numbers, and that bytes of another length tell nothing.
 use mathlib.Core.{Bool.cond, List.List, List.[], List.◌∷◌}
-use Rattle.std.specs.Prelude.{ℕ, Option, None, Some}
+use Rattle.std.specs.Prelude.{ℕ, Option, None, Some, unwrap_or}
 use Rattle.kinds.specs.{Ranges.none}
 use Rattle.trains.specs.{Record.order_at}
 use Rattle.trains.specs.{declared.record.Order.Order, declared.record.Position.Position}
@@ -14,10 +14,9 @@ use Rattle.host.specs.{declared.told.OrderTold.OrderTold, declared.told.TrainAns
 unfoldable pub number_answer : List ℕ → ℕ → Answer
 number_answer bs n = of_session bs (accepted_with n 0 0)
 
--- a location, or none
-unfoldable pub location_number : Option ℕ → ℕ
-location_number None = none
-location_number (Some location) = location
+-- a location or a limit as a number; the number of none where it is missing
+abbrev pub number_or_none : Option ℕ → ℕ
+number_or_none number = unwrap_or number none
 
 -- the front of a position, or none
 unfoldable pub front_number : Option Position → ℕ
@@ -29,14 +28,9 @@ unfoldable pub rear_number : Option Position → ℕ
 rear_number None = none
 rear_number (Some p) = p.rear
 
--- an order's limit, or none where it is bare
-unfoldable pub limit_number : Option ℕ → ℕ
-limit_number None = none
-limit_number (Some location) = location
-
 -- an order: the other train's ticket and the limit
 abbrev pub order_told : Order → OrderTold
-order_told order = record { ticket = order.other.0; limit = limit_number order.limit }
+order_told order = record { ticket = order.other.0; limit = number_or_none order.limit }
 
 -- the four orders of a train
 unfoldable pub orders_told : List Order → List OrderTold
@@ -54,8 +48,8 @@ train_told t = record {
   left = t.left;
   front = front_number t.track.position;
   rear = rear_number t.track.position;
-  authority = location_number t.track.granted;
-  danger = location_number t.track.danger;
+  authority = number_or_none t.track.granted;
+  danger = number_or_none t.track.danger;
   orders = orders_told t.orders;
 }
 

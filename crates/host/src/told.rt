@@ -1,10 +1,9 @@
 // A train record as numbers. Where there is no position, authority, signal or limit, the number is that of none.
 ghost use Rattle.std.specs.Prelude.{◌≡◌};
-ghost use Rattle.host.specs.Told.{location_number, front_number, rear_number, limit_number, order_told, orders_told, train_told, train_refused};
+ghost use Rattle.host.specs.Told.{number_or_none, front_number, rear_number, order_told, orders_told, train_told, train_refused};
 
 use kinds::ranges;
-use kinds::ranges::Location;
-use trains::record::{Limit, Order, Position, Train};
+use trains::record::{Order, Position, Train};
 
 // An order: the other train's ticket, 0 for no order; and the limit in metres, or none for a bare one.
 #[repr(C)]
@@ -32,49 +31,39 @@ pub struct TrainAnswer {
     pub orders: [OrderTold; 4],
 }
 
-fn location_number(location: Option<u32>) -> u32
-    ensures { result ≡ location_number location }
+// A location, or a limit.
+fn number_or_none(number: Option<u32>) -> u32
+    ensures { result ≡ number_or_none number }
 {
-    match location {
-        None => ranges::NONE,
-        Some(metres) => metres,
-    }
+    number.unwrap_or(ranges::NONE)
 }
 
-fn front_number(position: Position) -> u32
+#[tactic(auto, unfolding(crate::specs::Told::front_number))]
+fn front_number(position: Option<Position>) -> u32
     ensures { result ≡ front_number position }
 {
     match position {
-        Position::Unknown => ranges::NONE,
-        Position::Between(front, _) => front,
+        None => ranges::NONE,
+        Some(ends) => ends.front,
     }
 }
 
-fn rear_number(position: Position) -> u32
+#[tactic(auto, unfolding(crate::specs::Told::rear_number))]
+fn rear_number(position: Option<Position>) -> u32
     ensures { result ≡ rear_number position }
 {
     match position {
-        Position::Unknown => ranges::NONE,
-        Position::Between(_, rear) => rear,
-    }
-}
-
-fn limit_number(limit: Option<u32>) -> u32
-    ensures { result ≡ limit_number limit }
-{
-    match limit {
         None => ranges::NONE,
-        Some(location) => location,
+        Some(ends) => ends.rear,
     }
 }
 
 fn tell_order(order: Order) -> OrderTold
     ensures { result ≡ order_told order }
 {
-    let limit = order.limit;
     OrderTold {
         ticket: order.other.0,
-        limit: limit_number(limit),
+        limit: number_or_none(order.limit),
     }
 }
 
@@ -93,11 +82,6 @@ fn tell_orders(orders: [Order; 4]) -> [OrderTold; 4]
 pub fn tell(train: Train) -> TrainAnswer
     ensures { result ≡ train_told train }
 {
-    let track = train.track;
-    let position = track.position;
-    let granted = track.granted;
-    let danger = track.danger;
-    let orders = train.orders;
     TrainAnswer {
         answer: 0,
         loco: train.loco.0,
@@ -106,11 +90,11 @@ pub fn tell(train: Train) -> TrainAnswer
         slots: train.slots,
         mode: train.mode,
         left: train.left,
-        front: front_number(position),
-        rear: rear_number(position),
-        authority: location_number(granted),
-        danger: location_number(danger),
-        orders: tell_orders(orders),
+        front: front_number(train.track.position),
+        rear: rear_number(train.track.position),
+        authority: number_or_none(train.track.granted),
+        danger: number_or_none(train.track.danger),
+        orders: tell_orders(train.orders),
     }
 }
 

@@ -9,13 +9,12 @@ ghost use Rattle.rules.specs.Deeds.{meant};
 ghost use Rattle.rules.specs.Rules.{Op};
 ghost use Rattle.judging.specs.Judged.{judged, JudgedAlike, end_judged};
 
-use kinds::found::Found;
 use kinds::{LAST_TICKET, Loco, Ticket};
 use rules::deeds::Deed;
 use rules::registering::grant;
 use rules::ruling::{Answer, Ruling};
 use rules::settings::Settings;
-use rules::slots::{Option<Slot>, is_request, slots_for};
+use rules::slots::{is_request, slots_for};
 use rules::{refusals, registering};
 use store::view;
 
@@ -36,7 +35,7 @@ pub fn request(s: &[u8], settings: Settings, loco: Loco, bytes: u32) -> Ruling
     let Some(row) = view::find_empty(s) else {
         return Ruling::refused(counter, refusals::REGISTER_FULL);
     };
-    if !Ticket(LAST_TICKET).is_above(counter) {
+    if counter >= Ticket(LAST_TICKET) {
         return Ruling::refused(counter, refusals::NO_TICKET_LEFT);
     }
     let wanted = slots_for(settings.carries, bytes);

@@ -3,7 +3,6 @@ ghost use Rattle.std.specs.Prelude.{◌≡◌};
 ghost use Rattle.rules.specs.Named.{named_in};
 ghost use Rattle.store.specs.Stands.{view_of};
 
-use kinds::found::Found;
 use kinds::{Loco, Ticket};
 use rules::named::Named;
 use store::view;

@@ -4,7 +4,6 @@ ghost use Rattle.rules.specs.Slots.{slot_of, is_free, lowest_run};
 ghost use Rattle.store.specs.Stands.{book_of};
 
 use kinds::Slot;
-use rules::slots::Option<Slot>;
 use store::view;
 
 const LAST_SLOT: usize = kinds::LAST_SLOT as usize;

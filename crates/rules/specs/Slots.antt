@@ -37,12 +37,7 @@ run_from (Some start) = Some (slot_of start)
 unfoldable pub lowest_run : List ℕ → ℕ → Option Slot
 lowest_run book n = run_from (first (λ start. is_run book start n) 1 last_slot)
 
--- there is such a start
-unfoldable pub is_run_found : Option Slot → Bool
-is_run_found None = false
-is_run_found (Some start) = true
-
--- and it is this slot; 0 where there is none
+-- that start; 0 where there is none
 unfoldable pub start_of : Option Slot → Slot
 start_of None = slot_of 0
 start_of (Some start) = start

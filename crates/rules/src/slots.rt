@@ -2,16 +2,7 @@
 ghost use Rattle.std.specs.Prelude.{◌≡◌};
 ghost use Rattle.rules.specs.Slots.{is_request, slots_for};
 
-use kinds::Slot;
-
 const MOST_SLOTS: u64 = 6;
-
-// The lowest start of a run of free slots that is long enough, if there is one.
-#[derive(Clone, Copy)]
-pub enum Option<Slot> {
-    NoRun,
-    From(Slot),
-}
 
 // A request is for 1 byte to six slots' worth.
 pub fn is_request(carries: u32, bytes: u32) -> bool

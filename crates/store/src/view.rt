@@ -6,7 +6,6 @@ ghost use Rattle.trains.specs.declared.sought.Sought.TheVariants.{Pair, Number, 
 ghost use Rattle.store.specs.Stands.{view_of, book_of, counter_of, kept_of, head_of};
 
 use crate::layout;
-use kinds::found::Found;
 use kinds::{Loco, Slot, Ticket};
 use rows::row;
 use trains::record::Train;

@@ -3,13 +3,11 @@
 #![tactic(auto)]
 
 use grids::{cells, classes};
-use kinds::found::Found;
-use kinds::ranges::Location;
 use kinds::{Loco, Slot, Ticket};
 use rows::row;
 use sos::shares;
 use sos::shares::Share;
-use trains::record::{Limit, Train};
+use trains::record::Train;
 use transitions::names;
 
 const STANDARD_OUTPUT: i32 = 1;
