@@ -3,7 +3,7 @@ use mathlib.Core.{List.List, Path.◌≡◌}
 use Rattle.std.specs.Prelude.{ℕ}
 use Rattle.kinds.specs.{declared.Loco.Loco, declared.Ticket.Ticket}
 use Rattle.rules.specs.{Deeds.end_asked, Named.named_in, Registering.ticket_for, Rules.Op, Rules.rule, declared.ruling.Answer.Answer}
-use Rattle.rules.specs.{declared.ruling.Ruling.Ruling, declared.settings.Settings.Settings}
+use Rattle.rules.specs.{Ruling.Ruling, declared.settings.Settings.Settings}
 use Rattle.store.specs.Stands.{view_of, counter_of}
 
 -- what the rules say of an operation on the lent bytes; a request would take the next ticket

@@ -20,7 +20,7 @@ use Rattle.rules.specs.Registering.{granted, released}
 use Rattle.rules.specs.Rules.{Op, request, release, on, sos, ground_of, done_by}
 use Rattle.rules.specs.Slots.{slot_of, slots_for}
 use Rattle.rules.specs.View.{View, row_in}
-use Rattle.rules.specs.declared.named.Named.{Named}
+use Rattle.rules.specs.Named.{Named}
 use Rattle.rules.specs.declared.settings.Settings.{Settings}
 use Rattle.order.specs.Sound.{Live}
 use Rattle.order.proofs.Facts.{Requests, requests, row_for, run_for, Names, names, raises}

@@ -25,7 +25,7 @@ use Rattle.rules.specs.Raising.{sos_ground}
 use Rattle.rules.specs.Registering.{request_ground, row_of_found}
 use Rattle.rules.specs.Slots.{most_slots, is_request, slots_for, slot_of, is_free, is_run, run_from, lowest_run, start_of}
 use Rattle.rules.specs.View.{View, row_in, mark_of, is_taken, sought_in, find_in}
-use Rattle.rules.specs.declared.named.Named.{Named}
+use Rattle.rules.specs.Named.{Named}
 use Rattle.rules.proofs.ChainLaws.{passed, passed-unless, both}
 use Rattle.order.specs.Scar.{Called}
 use Rattle.order.specs.Sound.{InBook, InRun}

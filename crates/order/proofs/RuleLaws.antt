@@ -17,7 +17,7 @@ use Rattle.rules.specs.Registering.{granted, released, request_ground}
 use Rattle.rules.specs.Rules.{Op, request, release, on, sos, grants, ground_of, done_by, rule}
 use Rattle.rules.specs.Ruling.{refused, ruled}
 use Rattle.rules.specs.View.{View}
-use Rattle.rules.specs.declared.ruling.Ruling.{Ruling}
+use Rattle.rules.specs.Ruling.{Ruling}
 use Rattle.rules.specs.declared.settings.Settings.{Settings}
 use Rattle.order.proofs.Facts.{names, requests}
 

@@ -16,7 +16,7 @@ use Rattle.rules.specs.Rules.{Op, rule, request}
 use Rattle.rules.specs.Ruling.{accepts}
 use Rattle.rules.specs.View.{View}
 use Rattle.rules.specs.declared.ruling.Answer.{Answer}
-use Rattle.rules.specs.declared.ruling.Ruling.{Ruling}
+use Rattle.rules.specs.Ruling.{Ruling}
 use Rattle.order.specs.InOrder.{start_view}
 use Rattle.store.specs.Layout.{session_bytes, is_session}
 use Rattle.store.specs.Lent.{Lent}

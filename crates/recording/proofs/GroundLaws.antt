@@ -22,9 +22,9 @@ use Rattle.rules.specs.Registering.{ticket_for, request_ground}
 use Rattle.rules.specs.Rules.{Op, request, release, on, sos, ground_of, rule}
 use Rattle.rules.specs.Ruling.{accepted_with, refused_with, when, unless}
 use Rattle.rules.specs.View.{View}
-use Rattle.rules.specs.declared.named.Named.{Named}
+use Rattle.rules.specs.Named.{Named}
 use Rattle.rules.specs.declared.ruling.Answer.{Answer}
-use Rattle.rules.specs.declared.ruling.Ruling.{Ruling}
+use Rattle.rules.specs.Ruling.{Ruling}
 use Rattle.rules.specs.declared.settings.Settings.{Settings}
 use Rattle.order.proofs.RuleLaws.{accepted_exactly, refused-plain}
 use Rattle.store.specs.Layout.{is_session}

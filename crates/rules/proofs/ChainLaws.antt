@@ -6,9 +6,18 @@ use native.Mathlib.Omega.{arith}
 use borrow.Author.Tests.{ne_eqb}
 use lib.Dec.{eqb}
 use Rattle.kinds.specs.declared.Ticket.{Ticket}
-use Rattle.rules.specs.declared.{effect.Effect.Effect, ruling.Answer.Answer, ruling.Ruling.Ruling}
-use Rattle.rules.specs.Refusals.{bad_loco, no_live_train}
-use Rattle.rules.specs.Ruling.{when, unless, refused_with, ruling, refused, ruled}
+use Rattle.std.specs.Prelude.{Option, None, Some, ok_or}
+use Rattle.std.specs.declared.result.Result.{Result}
+use Rattle.std.specs.declared.result.Result.TheVariants.{Ok, Err}
+use Rattle.std.specs.Result.{IsErrAnd}
+use Rattle.std.proofs.lemmas.Result.{err_from_is_err_and}
+use Rattle.kinds.specs.Kinds.{loco_in_range}
+use Rattle.rules.specs.declared.refusals.Refusal.{Refusal}
+use Rattle.rules.specs.declared.refusals.Refusal.TheVariants.{BadLoco, NoLiveTrain}
+use Rattle.rules.specs.{declared.named.Live.Live, declared.named.Named.Named as NamedSaid}
+use Rattle.rules.specs.{Ruling.Ruling, Refusals.number_of, Named.name_ground}
+use Rattle.rules.specs.Meant.{name_of, named_meant, live_train, ruling_meant}
+use Rattle.rules.specs.Ruling.{when, unless, refused, ruled}
 
 -- a check that gives its ground, and one that passes on
 pub stops : (test : Bool) (ground next : ℕ) → test ≡ true → ground ≡ when test ground next
@@ -60,12 +69,30 @@ pub allows : (counter : Ticket) (ground : ℕ) (done : Ruling) → 0 ≡ ground 
 unfolding ruled
 allows counter ground done e = ap (λ (n : ℕ). cond (eqb n 0) done (refused counter n)) e
 
--- a train that is named: what is answered refuses on the grounds of the name first
-pub ruled_by_name : (in_range live : Bool) (a : Answer) (counter : Ticket) (e : Effect)
-    → (let g : ℕ = unless in_range bad_loco (unless live no_live_train 0) in
-    let b : Answer = cond (eqb g 0) a (refused_with g) in
-    ruled counter b.answer (ruling b counter e) ≡ ruled counter (unless in_range bad_loco (unless live no_live_train a.answer)) (ruling a counter e))
-unfolding ruled unless
-ruled_by_name true true a counter e = refl
-ruled_by_name true false a counter e = refl
-ruled_by_name false live a counter e = refl
+-- what the exit of a `?` gives: the refusal that it met
+pub met : {T : Type 0} (r : Result T Refusal) (e : Refusal) → IsErrAnd r (λ y. y ≡ e) → r ≡ Err e
+met r e h = let w = err_from_is_err_and r h in w.1 ∙ ap Err w.2
+
+-- a name that is refused, and one that names a live train
+pub named_refused : (counter : Ticket) (n : NamedSaid) (e : Refusal) (next : ℕ) (done : Ruling) → live_train n ≡ Err e
+    → ruling_meant counter (Err e) ≡ ruled counter (name_ground (named_meant n) next) done
+unfolding live_train name_ground unless ruled number_of
+named_refused counter n e next done q = go (loco_in_range n.loco) n.live refl q
+  where
+    go : (b : Bool) (f : Option Live) → loco_in_range n.loco ≡ b → cond b (ok_or f NoLiveTrain) (Err BadLoco) ≡ Err e
+        → ruling_meant counter (Err e) ≡ ruled counter (name_ground (name_of n.loco f) next) done
+    go false None h q = let z : BadLoco ≡ e = cc in rw (h, ← z) refl
+    go false (Some l) h q = let z : BadLoco ≡ e = cc in rw (h, ← z) refl
+    go true None h q = let z : NoLiveTrain ≡ e = cc in rw (h, ← z) refl
+    go true (Some l) h q = cc
+
+pub named_live : (n : NamedSaid) (l : Live) (next : ℕ) → live_train n ≡ Ok l
+    → (n.live ≡ Some l) × (name_ground (named_meant n) next ≡ next)
+unfolding live_train name_ground unless
+named_live n l next q = go (loco_in_range n.loco) n.live refl q
+  where
+    go : (b : Bool) (f : Option Live) → loco_in_range n.loco ≡ b → cond b (ok_or f NoLiveTrain) (Err BadLoco) ≡ Ok l
+        → (f ≡ Some l) × (name_ground (name_of n.loco f) next ≡ next)
+    go false f h q = cc
+    go true None h q = cc
+    go true (Some m) h q = let z : m ≡ l = cc in (ap Some z, rw h refl)

@@ -7,8 +7,8 @@ use Rattle.kinds.specs.{Ranges.is_position, Ranges.is_none_or_location, Ranges.l
 use Rattle.trains.specs.{Authority.end_of, Orders.has_order, Orders.order_cleared}
 use Rattle.trains.specs.{Changes.with_position, Changes.with_authority, Changes.with_danger, Changes.with_mode, declared.record.Train.Train}
 use Rattle.rules.specs.{Effect.row_only, Named.name_ground, Named.name_answer, Refusals.bad_position, Refusals.bad_location, Refusals.no_such_order}
-use Rattle.rules.specs.{Ruling.accepted_with, Ruling.refused_with, Ruling.ruling, declared.deeds.Changed.Changed, declared.named.Named.Named}
-use Rattle.rules.specs.{declared.ruling.Answer.Answer, declared.ruling.Ruling.Ruling, declared.deeds.Deed.Deed as Said}
+use Rattle.rules.specs.{Ruling.accepted_with, Ruling.refused_with, Ruling.ruling, Named.Named}
+use Rattle.rules.specs.{declared.ruling.Answer.Answer, Ruling.Ruling, declared.deeds.Deed.Deed as Said}
 use Rattle.rules.specs.declared.deeds.Deed.TheVariants.{Flags, Position, Authority, Danger, Clear}
 
 pub data Deed : Type 0 where
@@ -30,6 +30,11 @@ meant (Clear other) fs = clear other
 unfoldable pub end_answer : Option ℕ → Answer
 end_answer None = accepted_with 0 0 0
 end_answer (Some end) = accepted_with 1 end 0
+
+-- the answer, and the train afterwards
+pub record Changed : Type 0 where
+  pub answer : Answer
+  pub train : Train
 
 -- an answer with a train
 abbrev pub changed_with : Answer → Train → Changed

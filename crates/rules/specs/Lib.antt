@@ -8,3 +8,4 @@ pub mod Registering
 pub mod Deeds
 pub mod Raising
 pub mod Rules
+pub mod Meant

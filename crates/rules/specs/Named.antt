@@ -1,9 +1,16 @@
 -- The train that a loco and a ticket name together.
 use Rattle.std.specs.Prelude.{Bool, true, false, cond, ℕ, eqb, Option, None, Some}
 use Rattle.kinds.specs.{Kinds.loco_in_range, declared.Loco.Loco, declared.Ticket.Ticket}
-use Rattle.trains.specs.{Record.blank_train, Sought.row_count, declared.sought.Sought.TheVariants.Pair}
+use Rattle.trains.specs.{Record.blank_train, Sought.row_count, declared.sought.Sought.TheVariants.Pair, declared.record.Train.Train}
 use Rattle.rules.specs.{Refusals.bad_loco, Refusals.no_live_train, Ruling.refused_with, Ruling.unless, View.View, View.row_in, View.find_in}
-use Rattle.rules.specs.{declared.named.Named.Named, declared.ruling.Answer.Answer}
+use Rattle.rules.specs.{declared.ruling.Answer.Answer}
+
+-- a loco that was named, and whether a live train has it and the ticket: then its row and record, else no row and a blank record
+pub record Named : Type 0 where
+  pub loco : Loco
+  pub live : Bool
+  pub row : ℕ
+  pub train : Train
 
 -- nobody is named
 abbrev pub nobody : Loco → Named

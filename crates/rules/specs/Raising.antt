@@ -7,9 +7,17 @@ use Rattle.kinds.specs.{Kinds.loco_in_range, Ranges.is_grid, declared.Ticket.Tic
 use Rattle.trains.specs.{Orders.has_place, Orders.with_order, declared.record.Train.Train}
 use Rattle.rules.specs.{Effect.no_slot, Effect.change, Effect.effect, Ruling.accepted_with, Ruling.ruling, Ruling.when}
 use Rattle.rules.specs.Refusals.{bad_loco, no_live_train, same_train, bad_grid, no_class, not_applicable, no_position, no_place}
-use Rattle.rules.specs.{declared.named.Named.Named, declared.raising.Side.Side, declared.ruling.Ruling.Ruling}
+use Rattle.rules.specs.{Named.Named, Ruling.Ruling}
 
 -- ---- one train
+
+-- a train as it is judged: whether its loco number is in range and names a live train, its row and row class, and what its share lacks
+pub record Side : Type 0 where
+  pub loco : Bool
+  pub live : Bool
+  pub row : ℕ
+  pub class : ℕ
+  pub lacks : ℕ
 
 -- what a share lacks: a position that was never reported, or a place where the train has none; 0 for nothing
 unfoldable pub share_ground : Share → Bool → ℕ

@@ -1,5 +1,7 @@
 -- The grounds on which a call on a session is refused, each with its number (document 01, "Session answers"), in the order of the checks.
 use Rattle.std.specs.Prelude.{ℕ}
+use Rattle.rules.specs.declared.refusals.Refusal.{Refusal}
+use Rattle.rules.specs.declared.refusals.Refusal.TheVariants.{BadRecord, WrongLength, BadLoco, BadBytes, AlreadyRegistered, RegisterFull, NoTicketLeft, NoFreeRun, NoLiveTrain, SameTrain, BadPosition, BadLocation, BadGrid, BadFlags, NoClass, NotApplicable, NoPosition, NoPlace, NoSuchOrder, TooFarBack}
 
 abbrev pub bad_record : ℕ  -- a record with a wrong mark, kind or length, or cut
 bad_record = 24
@@ -40,6 +42,9 @@ bad_location = 17
 abbrev pub bad_grid : ℕ  -- no grid has this number
 bad_grid = 17
 
+abbrev pub bad_flags : ℕ  -- flags that are not 91 of 0 or 1, or a mode that is none
+bad_flags = 17
+
 abbrev pub no_class : ℕ  -- a train of an SOS whose mode has no row class
 no_class = 19
 
@@ -57,3 +62,26 @@ no_such_order = 21
 
 abbrev pub too_far_back : ℕ  -- a step back by more than the entries kept
 too_far_back = 22
+
+-- the number of each ground
+unfoldable pub number_of : Refusal → ℕ
+number_of BadRecord = bad_record
+number_of WrongLength = wrong_length
+number_of BadLoco = bad_loco
+number_of BadBytes = bad_bytes
+number_of AlreadyRegistered = already_registered
+number_of RegisterFull = register_full
+number_of NoTicketLeft = no_ticket_left
+number_of NoFreeRun = no_free_run
+number_of NoLiveTrain = no_live_train
+number_of SameTrain = same_train
+number_of BadPosition = bad_position
+number_of BadLocation = bad_location
+number_of BadGrid = bad_grid
+number_of BadFlags = bad_flags
+number_of NoClass = no_class
+number_of NotApplicable = not_applicable
+number_of NoPosition = no_position
+number_of NoPlace = no_place
+number_of NoSuchOrder = no_such_order
+number_of TooFarBack = too_far_back

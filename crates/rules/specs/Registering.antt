@@ -7,8 +7,8 @@ use Rattle.trains.specs.declared.sought.Sought.TheVariants.{Number, Empty}
 use Rattle.rules.specs.{Effect.row_and_run, View.View, View.find_in}
 use Rattle.rules.specs.Refusals.{bad_loco, bad_bytes, already_registered, register_full, no_ticket_left, no_free_run}
 use Rattle.rules.specs.Ruling.{accepted_with, ruling, when, unless}
-use Rattle.rules.specs.{Slots.is_request, Slots.slots_for, Slots.lowest_run, Slots.start_of, declared.named.Named.Named}
-use Rattle.rules.specs.declared.ruling.Ruling.{Ruling}
+use Rattle.rules.specs.{Slots.is_request, Slots.slots_for, Slots.lowest_run, Slots.start_of, Named.Named}
+use Rattle.rules.specs.Ruling.{Ruling}
 
 -- the ticket with a number
 abbrev pub ticket_of : ℕ → Ticket

@@ -4,7 +4,7 @@ use Rattle.std.specs.Prelude.{Bool, true, false, ℕ}
 use Rattle.kinds.specs.{declared.Loco.Loco, declared.Ticket.Ticket}
 use Rattle.rules.specs.{Named.named_in, Named.name_ground, Raising.sos_ground, Raising.raised}
 use Rattle.rules.specs.{Registering.request_ground, Registering.requested, Registering.released, Ruling.ruled, View.View}
-use Rattle.rules.specs.{Deeds.Deed, Deeds.done, Deeds.deed_ground, Deeds.deed_done, declared.ruling.Ruling.Ruling}
+use Rattle.rules.specs.{Deeds.Deed, Deeds.done, Deeds.deed_ground, Deeds.deed_done, Ruling.Ruling}
 use Rattle.rules.specs.declared.settings.Settings.{Settings}
 
 -- the operations, step-back apart; an SOS names L2 first

@@ -3,7 +3,13 @@
 use Rattle.std.specs.Prelude.{Bool, cond, ℕ, eqb}
 use Rattle.trains.specs.{Record.blank_train, Sought.row_count}
 use Rattle.kinds.specs.declared.Ticket.{Ticket}
-use Rattle.rules.specs.{Effect.row_only, declared.effect.Effect.Effect, declared.ruling.Answer.Answer, declared.ruling.Ruling.Ruling}
+use Rattle.rules.specs.{Effect.row_only, declared.effect.Effect.Effect, declared.ruling.Answer.Answer}
+
+-- what the rules say of an operation
+pub record Ruling : Type 0 where
+  pub answer : Answer
+  pub counter : Ticket
+  pub effect : Effect
 
 -- where the test holds, its ground; else what follows in the chain of checks. 0 at its end is no ground
 unfoldable pub when : Bool → ℕ → ℕ → ℕ

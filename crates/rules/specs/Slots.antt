@@ -1,5 +1,5 @@
 -- The slot book: how many slots a request needs, and where they are. `per_slot` is the bytes that a slot carries.
-use mathlib.Core.{Bool.Bool, Bool.true, Bool.false, Bool.not, Bool.◌&&◌, List.List}
+use mathlib.Core.{Bool.Bool, Bool.true, Bool.not, Bool.◌&&◌, List.List}
 use Rattle.std.specs.Prelude.{ℕ, zero, suc, ◌+◌, ◌-◌, ◌*◌, ◌/◌, Option, None, Some}
 use Rattle.kinds.specs.{Found.first, Kinds.last_slot, Kinds.slot_in_range, Ranges.one_to, declared.Slot.Slot}
 use Rattle.rules.specs.{View.is_taken}

@@ -1,5 +1,5 @@
 // Deeds, the operations on one train that is named, and what a deed gives.
-use crate::ruling::Answer;
+use crate::ruling::Told;
 use kinds::Ticket;
 use trains::record::Train;
 
@@ -13,9 +13,9 @@ pub enum Deed {
     Clear(Ticket),
 }
 
-// The answer, and the train afterwards; the same train where the deed is refused.
+// What is told, and the train afterwards, where a deed is accepted.
 #[derive(Clone, Copy)]
 pub struct Changed {
-    pub answer: Answer,
+    pub told: Told,
     pub train: Train,
 }

@@ -5,7 +5,6 @@
 pub mod deeds;
 pub mod effect;
 pub mod named;
-pub mod raising;
 pub mod refusals;
 pub mod registering;
 pub mod ruling;

@@ -1,44 +1,34 @@
 // The train that a loco and a ticket name together.
 ghost use Rattle.std.specs.Prelude.{◌≡◌};
-ghost use Rattle.rules.specs.Named.{nobody, name_answer};
+ghost use Rattle.rules.specs.Meant.{live_train};
 
-use crate::refusals;
-use crate::ruling::Answer;
+use crate::refusals::Refusal;
 use kinds::Loco;
 use trains::record::Train;
-use trains::sought::ROWS;
 
-// The loco that was named, and whether a live train has it and the ticket: then the train and its row, else a blank one and no row.
+// A live train, and its row.
 #[derive(Clone, Copy)]
-pub struct Named {
-    pub loco: Loco,
-    pub live: bool,
+pub struct Live {
     pub row: usize,
     pub train: Train,
 }
 
-impl Named {
-    pub fn nobody(loco: Loco) -> Named
-        ensures { result ≡ nobody loco }
-    {
-        Named {
-            loco,
-            live: false,
-            row: ROWS,
-            train: Train::blank(),
-        }
-    }
+// The loco that was named, and the live train that has it and the ticket, if there is one.
+#[derive(Clone, Copy)]
+pub struct Named {
+    pub loco: Loco,
+    pub live: Option<Live>,
 }
 
-// What is answered where a train is named: the refusal of its name, or else the answer itself.
-pub fn answer(loco: Loco, live: bool, answer: Answer) -> Answer
-    ensures { result ≡ name_answer loco live answer }
-{
-    if !loco.in_range() {
-        return Answer::refused(refusals::BAD_LOCO);
+impl Named {
+    // The train that is named, or the ground on which its name is refused.
+    #[tactic(auto, unfolding(crate::specs::Meant::live_train))]
+    pub fn train(self) -> Result<Live, Refusal>
+        ensures { result ≡ live_train self }
+    {
+        if !self.loco.in_range() {
+            return Err(Refusal::BadLoco);
+        }
+        self.live.ok_or(Refusal::NoLiveTrain)
     }
-    if !live {
-        return Answer::refused(refusals::NO_LIVE_TRAIN);
-    }
-    answer
 }

@@ -3,32 +3,43 @@ ghost use Rattle.std.specs.Prelude.{◌≡◌};
 ghost use Rattle.rules.specs.Named.{name_ground};
 ghost use Rattle.rules.specs.Registering.{granted, released};
 ghost use Rattle.rules.specs.Ruling.{ruled};
+ghost use Rattle.rules.specs.Meant.{named_meant, ruling_by, ruling_meant};
 
-use crate::named;
+use crate::effect::Effect;
 use crate::named::Named;
-use crate::ruling::{Answer, Ruling};
+use crate::refusals::Refusal;
+use crate::ruling::{Ruling, Told};
 use kinds::{Loco, Slot, Ticket};
 use trains::record::Train;
-use trains::sought::ROWS;
 
 // A train granted: in a row, under a ticket, which is the counter afterwards, with its slots taken.
+#[tactic(auto, unfolding(crate::specs::Registering::granted))]
 pub fn grant(loco: Loco, slots: u32, ticket: Ticket, row: usize, start: Slot) -> Ruling
-    ensures { result ≡ granted loco slots ticket row start }
+    ensures { ruling_by result ≡ granted loco slots ticket row start }
 {
-    let answer = Answer::accepted(ticket.0, start.0, slots);
     let train = Train::fresh(loco, ticket, start, slots);
-    let none = Train::blank();
-    Ruling::of(answer, ticket, start, slots, true, row, train, ROWS, none)
+    Ruling {
+        told: Told {
+            first: ticket.0,
+            second: start.0,
+            third: slots,
+        },
+        counter: ticket,
+        effect: Effect::on_row_and_run(row, train, start, slots, true),
+    }
 }
 
 // The row is blank, and its slots are free at once.
-pub fn release(named: Named, counter: Ticket) -> Ruling
-    ensures { result ≡ ruled counter (name_ground named 0) (released counter named) }
+#[tactic(auto, unfolding(crate::specs::Meant::live_train, crate::specs::Named::name_ground, crate::specs::Ruling::unless, crate::specs::Ruling::ruled, crate::specs::Registering::released))]
+pub fn release(named: Named, counter: Ticket) -> Result<Ruling, Refusal>
+    ensures { ruling_meant counter result ≡ ruled counter (name_ground (named_meant named) 0) (released counter (named_meant named)) }
 {
-    let loco = named.loco;
-    let answer = named::answer(loco, named.live, Answer::accepted(0, 0, 0));
-    let train = named.train;
-    let start = train.start;
-    let none = Train::blank();
-    Ruling::answered(answer, counter, start, train.slots, named.row, none)
+    let live = named.train()?;
+    let start = live.train.start;
+    let effect = Effect::on_row_and_run(live.row, Train::blank(), start, live.train.slots, false);
+    Ok(Ruling {
+        told: Told::nothing(),
+        counter,
+        effect,
+    })
 }

@@ -1,14 +1,14 @@
-// What the rules say of an operation: the answer, the ticket counter afterwards, and the effect on the view.
-ghost use Rattle.std.specs.Prelude.{false, ◌≡◌};
-ghost use Rattle.rules.specs.Effect.{change, effect, row_and_run};
-ghost use Rattle.rules.specs.Ruling.{accepted_with, refused_with, ruling, refused, ruled};
+// What the rules say of an operation: what a call answers, the ticket counter afterwards, and the effect on the view.
+ghost use Rattle.std.specs.Prelude.{◌≡◌};
+ghost use Rattle.rules.specs.Refusals.{number_of};
+ghost use Rattle.rules.specs.Ruling.{accepted_with, refused_with};
+ghost use Rattle.rules.specs.Meant.{accepted_by, answer_meant};
 
-use crate::effect::{Change, Effect};
-use kinds::{Slot, Ticket};
-use trains::record::Train;
-use trains::sought::ROWS;
+use crate::effect::Effect;
+use crate::refusals::Refusal;
+use kinds::Ticket;
 
-// What a call answers: 0 with three numbers, or a refusal's number with zeros.
+// What a call answers, as C gets it: 0 with three numbers, or a refusal's number with zeros.
 #[repr(C)]
 #[derive(Clone, Copy)]
 pub struct Answer {
@@ -18,11 +18,33 @@ pub struct Answer {
     pub third: u32,
 }
 
+// The three numbers that a call tells where it is accepted.
+#[derive(Clone, Copy)]
+pub struct Told {
+    pub first: u32,
+    pub second: u32,
+    pub third: u32,
+}
+
+// What an operation does that is accepted.
 #[derive(Clone, Copy)]
 pub struct Ruling {
-    pub answer: Answer,
+    pub told: Told,
     pub counter: Ticket,
     pub effect: Effect,
+}
+
+impl Told {
+    // Nothing is told: zeros.
+    pub fn nothing() -> Told
+        ensures { accepted_by result ≡ accepted_with 0 0 0 }
+    {
+        Told {
+            first: 0,
+            second: 0,
+            third: 0,
+        }
+    }
 }
 
 impl Answer {
@@ -37,73 +59,24 @@ impl Answer {
         }
     }
 
-    pub fn refused(reason: u32) -> Answer
-        ensures { result ≡ refused_with reason }
+    pub fn refused(reason: Refusal) -> Answer
+        ensures { result ≡ refused_with (number_of reason) }
     {
         Answer {
-            answer: reason,
+            answer: reason.number(),
             first: 0,
             second: 0,
             third: 0,
         }
     }
-}
 
-impl Ruling {
-    // A run of slots taken, or freed; a train in its row, and in one more.
-    pub fn of(
-        answer: Answer,
-        counter: Ticket,
-        start: Slot,
-        slots: u32,
-        taken: bool,
-        row: usize,
-        train: Train,
-        also: usize,
-        other: Train,
-    ) -> Ruling
-        ensures { result ≡ ruling answer counter (effect start slots taken (change row train) (change also other)) }
+    // The answer for what a call tells, or for its refusal.
+    pub fn of(told: Result<Told, Refusal>) -> Answer
+        ensures { result ≡ answer_meant told }
     {
-        Ruling {
-            answer,
-            counter,
-            effect: Effect {
-                start,
-                slots,
-                taken,
-                changed: Change { row, train },
-                also: Change {
-                    row: also,
-                    train: other,
-                },
-            },
+        match told {
+            Ok(numbers) => Answer::accepted(numbers.first, numbers.second, numbers.third),
+            Err(reason) => Answer::refused(reason),
         }
-    }
-
-    // The counter stays, and there is no effect.
-    pub fn refused(counter: Ticket, reason: u32) -> Ruling
-        ensures { result ≡ refused counter reason }
-    {
-        let answer = Answer::refused(reason);
-        let none = Train::blank();
-        Ruling::of(answer, counter, Slot(0), 0, false, ROWS, none, ROWS, none)
-    }
-
-    // Refused where the answer is; else one row is changed, and slots are freed.
-    pub fn answered(
-        answer: Answer,
-        counter: Ticket,
-        start: Slot,
-        slots: u32,
-        row: usize,
-        train: Train,
-    ) -> Ruling
-        ensures { result ≡ ruled counter answer.answer (ruling answer counter (row_and_run row train start slots false)) }
-    {
-        if answer.answer != 0 {
-            return Ruling::refused(counter, answer.answer);
-        }
-        let none = Train::blank();
-        Ruling::of(answer, counter, start, slots, false, row, train, ROWS, none)
     }
 }

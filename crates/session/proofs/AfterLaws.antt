@@ -16,7 +16,7 @@ use Rattle.rules.specs.Registering.{ticket_for}
 use Rattle.rules.specs.Rules.{Op, grants, ground_of, done_by}
 use Rattle.rules.specs.declared.effect.Effect.{Effect}
 use Rattle.rules.specs.declared.ruling.Answer.{Answer}
-use Rattle.rules.specs.declared.ruling.Ruling.{Ruling}
+use Rattle.rules.specs.Ruling.{Ruling}
 use Rattle.order.proofs.RuleLaws.{accepted-plain, accepted_exactly, counter-after, grant_below}
 use Rattle.store.specs.Layout.{counter_at, is_session}
 use Rattle.store.specs.Lent.{Lent}

@@ -27,7 +27,7 @@ use Rattle.rules.specs.Rules.{Op, request, release, on, sos, ground_of, done_by}
 use Rattle.rules.specs.Ruling.{refused_with}
 use Rattle.rules.specs.Slots.{slots_for}
 use Rattle.rules.specs.View.{View, row_in}
-use Rattle.rules.specs.declared.named.Named.{Named}
+use Rattle.rules.specs.Named.{Named}
 use Rattle.rules.specs.declared.settings.Settings.{Settings}
 use Rattle.grids.specs.Cells.{measure_of}
 use Rattle.order.proofs.Facts.{run_for, requests, Names, names, raises}

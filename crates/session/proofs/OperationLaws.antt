@@ -8,7 +8,7 @@ use Rattle.rules.specs.Registering.{ticket_for}
 use Rattle.rules.specs.Rules.{Op, ground_of}
 use Rattle.rules.specs.Ruling.{refused_with, accepts}
 use Rattle.rules.specs.declared.ruling.Answer.{Answer}
-use Rattle.rules.specs.declared.ruling.Ruling.{Ruling}
+use Rattle.rules.specs.Ruling.{Ruling}
 use Rattle.rules.specs.declared.settings.Settings.{Settings}
 use Rattle.order.proofs.RuleLaws.{refused-plain, accepted_exactly}
 use Rattle.store.specs.Layout.{is_session}

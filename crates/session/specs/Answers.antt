@@ -2,7 +2,7 @@
 use mathlib.Core.{Bool.cond, List.List}
 use Rattle.std.specs.Prelude.{ℕ}
 use Rattle.kinds.specs.{declared.Loco.Loco, declared.Ticket.Ticket}
-use Rattle.rules.specs.{Rules.Op, Ruling.accepted_with, Ruling.accepts, declared.ruling.Answer.Answer, declared.ruling.Ruling.Ruling}
+use Rattle.rules.specs.{Rules.Op, Ruling.accepted_with, Ruling.accepts, declared.ruling.Answer.Answer, Ruling.Ruling}
 use Rattle.store.specs.{Emptied.emptied, Layout.is_session}
 use Rattle.ledger.specs.Settled.{settled_in}
 use Rattle.judging.specs.Judged.{judged, end_judged}

@@ -17,7 +17,7 @@ use Rattle.rules.specs.Registering.{ticket_of, ticket_for}
 use Rattle.rules.specs.Rules.{Op, grants, ground_of, done_by}
 use Rattle.rules.specs.View.{View}
 use Rattle.rules.specs.declared.ruling.Answer.{Answer}
-use Rattle.rules.specs.declared.ruling.Ruling.{Ruling}
+use Rattle.rules.specs.Ruling.{Ruling}
 use Rattle.rules.specs.declared.settings.Settings.{Settings}
 use Rattle.order.specs.InOrder.{InOrder}
 use Rattle.order.proofs.RuleLaws.{accepted-plain, accepted_exactly, counter-done}

@@ -14,7 +14,7 @@ use Rattle.rules.specs.Rules.{Op, grants, ground_of, done_by, rule}
 use Rattle.rules.specs.Ruling.{accepts}
 use Rattle.rules.specs.View.{View}
 use Rattle.rules.specs.declared.effect.Effect.{Effect}
-use Rattle.rules.specs.declared.ruling.Ruling.{Ruling}
+use Rattle.rules.specs.Ruling.{Ruling}
 use Rattle.rules.specs.declared.settings.Settings.{Settings}
 use Rattle.order.specs.Sound.{Sound}
 use Rattle.order.proofs.RuleLaws.{accepted-plain, accepted_exactly, grant_below, Alike, again, grant_again}

@@ -10,7 +10,7 @@ use Rattle.rules.specs.Registering.{ticket_for}
 use Rattle.rules.specs.Rules.{release, ground_of}
 use Rattle.rules.specs.View.{row_in}
 use Rattle.rules.specs.declared.ruling.Answer.{Answer}
-use Rattle.rules.specs.declared.ruling.Ruling.{Ruling}
+use Rattle.rules.specs.Ruling.{Ruling}
 use Rattle.order.specs.Scar.{Called, NamesNone, Released}
 use Rattle.order.proofs.OrderLaws.{order-sound}
 use Rattle.order.proofs.ScarLaws.{release-takes, names_one, above_names_none, none-refused}

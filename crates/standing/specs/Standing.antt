@@ -6,7 +6,7 @@ use Rattle.replay.specs.Rules.{Rules, Outcome, refuse, accept, just_below}
 use Rattle.replay.specs.Demand3.{Call, op, back, Session}
 use Rattle.kinds.specs.Kinds.{last_ticket}
 use Rattle.rules.specs.{Effect.applied, Refusals.too_far_back, Registering.ticket_of, Registering.ticket_for, Rules.Op, Rules.grants, Rules.rule}
-use Rattle.rules.specs.{Ruling.accepts, View.View, declared.ruling.Answer.Answer, declared.ruling.Ruling.Ruling, declared.settings.Settings.Settings}
+use Rattle.rules.specs.{Ruling.accepts, View.View, declared.ruling.Answer.Answer, Ruling.Ruling, declared.settings.Settings.Settings}
 use Rattle.order.specs.Sound.{Sound}
 use Rattle.store.specs.{Lent.Lent, Stands.view_of, Stands.counter_of}
 use Rattle.entries.specs.Entry.{Entry, saved, undone}

@@ -1,6 +1,6 @@
 -- `acting::on` meets its contract.
 use mathlib.Core.Path.{ap, ◌∙◌}
-use Rattle.rules.specs.declared.deeds.Changed.{Changed}
+use Rattle.rules.specs.Deeds.{Changed}
 use Rattle.rules.specs.{Deeds.deed_ground, Deeds.deed_done, Named.name_ground, Ruling.ruled}
 use Rattle.rules.proofs.ChainLaws.{ruled_by_name}
 use Rattle.acting.proofs.on.Goals as goal

@@ -17,7 +17,7 @@ use Rattle.rules.specs.Ruling.{when, unless, refused}
 use Rattle.rules.specs.Rules.{Op, ground_of, done_by, rule}
 use Rattle.rules.specs.Slots.{is_request, lowest_run, start_of}
 use Rattle.rules.specs.View.{find_in}
-use Rattle.rules.specs.declared.ruling.Ruling.{Ruling}
+use Rattle.rules.specs.Ruling.{Ruling}
 use Rattle.rules.specs.declared.settings.Settings.{Settings}
 use Rattle.rules.proofs.ChainLaws.{stops, goes_on_lem, stops-unless, goes_on-unless, refuses, allows}
 use Rattle.store.specs.Stands.{view_of, book_of, counter_of}

@@ -1,12 +1,10 @@
 -- `rules::registering::release` meets its contract.
-use mathlib.Core.Path.{◌∙◌}
-use Rattle.rules.specs.{Named.name_ground, Registering.released}
-use Rattle.rules.proofs.ChainLaws.{ruled_by_name}
+use mathlib.Core.Path.{sym, ap, ◌∙◌}
+use Rattle.rules.specs.Meant.{ruling_meant}
+use Rattle.rules.proofs.ChainLaws.{met, named_refused}
 use Rattle.rules.proofs.registering.release.Goals as goal
 
-pub returns : goal.returns
-unfolding name_ground released
-returns c =
-    c.answered.ensures
-    ∙ (simp (c.blank-none.ensures, c.answer-answer.ensures, c.accepted.ensures))
-    ∙ ruled_by_name _ _ _ _ _
+pub returns-in_err-live : goal.returns-in_err-live
+returns-in_err-live c =
+    ap (ruling_meant c.args.counter) (met _ _ c.from_residual.ensures.1)
+    ∙ named_refused c.args.counter c.args.named c.in_err-live.field-0.0 _ _ (sym c.train.ensures ∙ c.in_err-live.was)
