@@ -14,10 +14,10 @@ use Rattle.std.proofs.lemmas.Result.{err_from_is_err_and}
 use Rattle.kinds.specs.Kinds.{loco_in_range}
 use Rattle.rules.specs.declared.refusals.Refusal.{Refusal}
 use Rattle.rules.specs.declared.refusals.Refusal.TheVariants.{BadLoco, NoLiveTrain}
-use Rattle.rules.specs.{declared.named.Live.Live, declared.named.Named.Named as NamedSaid}
-use Rattle.rules.specs.{Ruling.Ruling, Refusals.number_of, Named.name_ground}
+use Rattle.rules.specs.{declared.named.Live.Live, declared.named.Named.Named as NamedSaid, declared.ruling.Answer.Answer}
+use Rattle.rules.specs.{Ruling.Ruling, Refusals.number_of, Named.name_ground, Named.name_answer}
 use Rattle.rules.specs.Meant.{name_of, named_meant, live_train, ruling_meant}
-use Rattle.rules.specs.Ruling.{when, unless, refused, ruled}
+use Rattle.rules.specs.Ruling.{when, unless, refused_with, refused, ruled}
 
 -- a check that gives its ground, and one that passes on
 pub stops : (test : Bool) (ground next : ℕ) → test ≡ true → ground ≡ when test ground next
@@ -96,3 +96,32 @@ named_live n l next q = go (loco_in_range n.loco) n.live refl q
     go false f h q = cc
     go true None h q = cc
     go true (Some m) h q = let z : m ≡ l = cc in (ap Some z, rw h refl)
+
+-- the same of an answer
+pub answer_refused : (n : NamedSaid) (e : Refusal) (a : Answer) → live_train n ≡ Err e
+    → refused_with (number_of e) ≡ name_answer (named_meant n).loco (named_meant n).live a
+unfolding live_train unless number_of
+answer_refused n e a q = go (loco_in_range n.loco) n.live refl q
+  where
+    go : (b : Bool) (f : Option Live) → loco_in_range n.loco ≡ b → cond b (ok_or f NoLiveTrain) (Err BadLoco) ≡ Err e
+        → refused_with (number_of e) ≡ name_answer (name_of n.loco f).loco (name_of n.loco f).live a
+    go false None h q = let z : BadLoco ≡ e = cc in rw (h, ← z) refl
+    go false (Some l) h q = let z : BadLoco ≡ e = cc in rw (h, ← z) refl
+    go true None h q = let z : NoLiveTrain ≡ e = cc in rw (h, ← z) refl
+    go true (Some l) h q = cc
+
+pub answer_live : (n : NamedSaid) (l : Live) (a : Answer) → live_train n ≡ Ok l
+    → a ≡ name_answer (named_meant n).loco (named_meant n).live a
+unfolding live_train unless
+answer_live n l a q = go (loco_in_range n.loco) n.live refl q
+  where
+    go : (b : Bool) (f : Option Live) → loco_in_range n.loco ≡ b → cond b (ok_or f NoLiveTrain) (Err BadLoco) ≡ Ok l
+        → a ≡ name_answer (name_of n.loco f).loco (name_of n.loco f).live a
+    go false f h q = cc
+    go true None h q = cc
+    go true (Some m) h q = rw h refl
+
+-- no ground has the number 0
+pub numbered : (e : Refusal) → eqb (number_of e) 0 ≡ false
+unfolding number_of
+numbered e = grind arith
