@@ -1,102 +1,145 @@
 // SOS between L1 and L2: each train's order by the cell of the grid, under the other train's ticket. All is judged before anything is changed.
 #![tactic(auto)]
 
-ghost use Rattle.std.specs.Prelude.{cond, ◌&&◌, ◌≡◌, eqb};
-ghost use Rattle.rules.specs.Raising.{share_ground, share_taken, side_of, side_ground, sos_ground, raised};
+ghost use Rattle.std.specs.Prelude.{◌≡◌, Bool, eqb};
+ghost use Rattle.trains.specs.Orders.{has_place};
+ghost use Rattle.rules.specs.Refusals.{no_position, no_place};
+ghost use Rattle.rules.specs.Raising.{share_ground, share_taken, train_class, trains_ground, sos_ground, raised};
 ghost use Rattle.rules.specs.Ruling.{ruled};
+ghost use Rattle.rules.specs.Meant.{named_meant, both_live, ground_meant, side_meant, ruling_meant};
 
 use grids::{cells, classes};
-use kinds::{Slot, Ticket, ranges};
-use rules::named::Named;
-use rules::raising::Side;
-use rules::refusals;
-use rules::ruling::{Answer, Ruling};
+use kinds::{Ticket, ranges};
+use rules::effect::{Change, Effect};
+use rules::named::{Live, Named};
+use rules::refusals::Refusal;
+use rules::ruling::{Ruling, Told};
 use sos::shares;
 use sos::shares::Share;
 use trains::record::Train;
 
 const NA: u32 = 0;
 
-// In a chain of checks, from the first on: the ground that was found; where there is none yet, the next check's, where its test holds.
-fn first(reason: u32, test: bool, next: u32) -> u32
-    ensures { result ≡ cond (eqb reason 0 && test) next reason }
-{
-    if (reason == 0) & test { next } else { reason }
-}
-
-// What a share lacks: a position that was never reported, or a place where the train has none; 0 for nothing.
-fn lacks(share: Share, place: bool) -> u32
-    ensures { result ≡ share_ground share place }
+// Was a position that the share needs never reported?
+#[tactic(auto, unfolding(rules::specs::Raising::share_ground, rules::specs::Ruling::when))]
+fn lacks_position(share: Share) -> bool
+    ensures { (place : Bool) → result ≡ eqb (share_ground share place) no_position }
 {
     match share {
-        Share::Nothing => 0,
-        Share::NoPosition => refusals::NO_POSITION,
-        Share::Order(_) => first(0, !place, refusals::NO_PLACE),
+        Share::NoPosition => true,
+        Share::Nothing | Share::Order(_) => false,
+    }
+}
+
+// Has the train no place for the share's order under the other's ticket?
+#[tactic(auto, unfolding(rules::specs::Raising::share_ground, rules::specs::Ruling::when))]
+fn lacks_place(share: Share, other: Ticket, train: Train) -> bool
+    ensures { result ≡ eqb (share_ground share (has_place train other)) no_place }
+{
+    match share {
+        Share::Order(_) => !train.has_place(other),
+        Share::Nothing | Share::NoPosition => false,
     }
 }
 
 // The train with its share taken, under the other's ticket.
+#[tactic(auto, unfolding(rules::specs::Raising::share_taken))]
 fn take_share(share: Share, other: Ticket, train: Train) -> Train
     ensures { result ≡ share_taken share other train }
 {
     match share {
-        Share::Nothing => train,
-        Share::NoPosition => train,
         Share::Order(limit) => train.with_order(other, limit),
+        Share::Nothing | Share::NoPosition => train,
     }
 }
 
-fn side_of(named: Named, share: Share, other: Ticket) -> Side
-    ensures { result ≡ side_of named share other }
+fn class_of(train: Train) -> u32
+    ensures { result ≡ train_class train }
 {
-    let loco = named.loco;
-    let train = named.train;
-    Side {
-        loco: loco.in_range(),
-        live: named.live,
-        row: named.row,
-        class: classes::class_of(train.mode, train.left),
-        lacks: lacks(share, train.has_place(other)),
-    }
+    classes::class_of(train.mode, train.left)
 }
 
-// The ground on which an SOS is refused, in the order of the checks; 0 for none.
-fn ground(grid: u32, cell: u32, l2: Side, l1: Side) -> u32
-    ensures { result ≡ side_ground grid cell l2 l1 }
+// The grounds of two live trains, in the order of the checks.
+fn judge(
+    grid: u32,
+    cell: u32,
+    l2: Live,
+    share2: Share,
+    l1: Live,
+    share1: Share,
+) -> Result<(), Refusal>
+    ensures { ground_meant result ≡ trains_ground grid cell (side_meant l2 share2 l1.train.ticket) (side_meant l1 share1 l2.train.ticket) }
 {
-    let ground = first(0, !l2.loco | !l1.loco, refusals::BAD_LOCO);
-    let ground = first(ground, !l2.live | !l1.live, refusals::NO_LIVE_TRAIN);
-    let ground = first(ground, l2.row == l1.row, refusals::SAME_TRAIN);
-    let ground = first(ground, !ranges::is_grid(grid), refusals::BAD_GRID);
-    let class = (l2.class == 0) | (l1.class == 0);
-    let ground = first(ground, class, refusals::NO_CLASS);
-    let ground = first(ground, cell == NA, refusals::NOT_APPLICABLE);
-    let position = (l2.lacks == refusals::NO_POSITION) | (l1.lacks == refusals::NO_POSITION);
-    let ground = first(ground, position, refusals::NO_POSITION);
-    let place = (l2.lacks == refusals::NO_PLACE) | (l1.lacks == refusals::NO_PLACE);
-    first(ground, place, refusals::NO_PLACE)
+    if l2.row == l1.row {
+        return Err(Refusal::SameTrain);
+    }
+    if !ranges::is_grid(grid) {
+        return Err(Refusal::BadGrid);
+    }
+    if (class_of(l2.train) == 0) | (class_of(l1.train) == 0) {
+        return Err(Refusal::NoClass);
+    }
+    if cell == NA {
+        return Err(Refusal::NotApplicable);
+    }
+    if lacks_position(share2) | lacks_position(share1) {
+        return Err(Refusal::NoPosition);
+    }
+    if lacks_place(share2, l1.train.ticket, l2.train)
+        | lacks_place(share1, l2.train.ticket, l1.train)
+    {
+        return Err(Refusal::NoPlace);
+    }
+    Ok(())
+}
+
+// Both trains that are named, or the ground on which a name is refused.
+#[tactic(auto, unfolding(rules::specs::Meant::both_live))]
+fn both(l2: Named, l1: Named) -> Result<(Live, Live), Refusal>
+    ensures { result ≡ both_live l2 l1 }
+{
+    if !(l2.loco.in_range() & l1.loco.in_range()) {
+        return Err(Refusal::BadLoco);
+    }
+    match (l2.live, l1.live) {
+        (Some(live2), Some(live1)) => Ok((live2, live1)),
+        _ => Err(Refusal::NoLiveTrain),
+    }
 }
 
 // SOS between two trains that were named: the cell and the shares are looked up once, then all is judged.
-pub fn raise(margin: u32, grid: u32, counter: Ticket, l2: Named, l1: Named) -> Ruling
-    ensures { result ≡ ruled counter (sos_ground margin grid l2 l1) (raised margin grid counter l2 l1) }
+pub fn raise(
+    margin: u32,
+    grid: u32,
+    counter: Ticket,
+    l2: Named,
+    l1: Named,
+) -> Result<Ruling, Refusal>
+    ensures { ruling_meant counter result ≡ ruled counter (sos_ground margin grid (named_meant l2) (named_meant l1))
+        (raised margin grid counter (named_meant l2) (named_meant l1)) }
 {
-    let t2 = l2.train;
-    let t1 = l1.train;
-    let ticket2 = t2.ticket;
-    let ticket1 = t1.ticket;
-    let cell = cells::cell(grid, classes::class_of(t2.mode, t2.left));
+    let (live2, live1) = both(l2, l1)?;
+    let (t2, t1) = (live2.train, live1.train);
+    let cell = cells::cell(grid, class_of(t2));
     let measure = cells::measure(cell);
     let share2 = shares::share_of_l2(measure, t1, t2, margin);
     let share1 = shares::share_of_l1(measure, t1);
-    let side2 = side_of(l2, share2, ticket1);
-    let side1 = side_of(l1, share1, ticket2);
-    let ground = ground(grid, cell, side2, side1);
-    if ground != 0 {
-        return Ruling::refused(counter, ground);
-    }
-    let t2 = take_share(share2, ticket1, t2);
-    let t1 = take_share(share1, ticket2, t1);
-    let answer = Answer::accepted(measure, cells::aspect(cell), 0);
-    Ruling::of(answer, counter, Slot(0), 0, false, l2.row, t2, l1.row, t1)
+    judge(grid, cell, live2, share2, live1, share1)?;
+    let changed = Change {
+        row: live2.row,
+        train: take_share(share2, t1.ticket, t2),
+    };
+    let also = Change {
+        row: live1.row,
+        train: take_share(share1, t2.ticket, t1),
+    };
+    Ok(Ruling {
+        told: Told {
+            first: measure,
+            second: cells::aspect(cell),
+            third: 0,
+        },
+        counter,
+        effect: Effect::on_two_rows(changed, also),
+    })
 }

@@ -125,3 +125,9 @@ answer_live n l a q = go (loco_in_range n.loco) n.live refl q
 pub numbered : (e : Refusal) → eqb (number_of e) 0 ≡ false
 unfolding number_of
 numbered e = grind arith
+
+-- a refusal of code whose number is the ground
+pub refuses_by : (counter : Ticket) (e : Refusal) (ground : ℕ) (done : Ruling) → number_of e ≡ ground
+    → refused counter (number_of e) ≡ ruled counter ground done
+unfolding ruled
+refuses_by counter e ground done h = rw (← h, numbered e) refl

@@ -59,18 +59,26 @@ share_for_2 margin grid l2 l1 = share_of_l2 (measure_of (cell_for grid l2)) l1 l
 abbrev pub share_for_1 : ℕ → Train → Train → Share
 share_for_1 grid l2 l1 = share_of_l1 (measure_of (cell_for grid l2)) l1
 
--- THE GROUNDS on which an SOS is refused, in the order of the checks
-abbrev pub side_ground : ℕ → ℕ → Side → Side → ℕ
-side_ground grid cell l2 l1 =
+-- THE GROUNDS on which an SOS is refused, in the order of the checks: first those of the two names
+abbrev pub names_ground : Side → Side → ℕ → ℕ
+names_ground l2 l1 next =
     when (not l2.loco || not l1.loco) bad_loco
     (when (not l2.live || not l1.live) no_live_train
-    (when (eqb l2.row l1.row) same_train
+    next)
+
+-- then those of two live trains
+abbrev pub trains_ground : ℕ → ℕ → Side → Side → ℕ
+trains_ground grid cell l2 l1 =
+    when (eqb l2.row l1.row) same_train
     (when (not (is_grid grid)) bad_grid
     (when (eqb l2.class 0 || eqb l1.class 0) no_class
     (when (eqb cell NA) not_applicable
     (when (eqb l2.lacks no_position || eqb l1.lacks no_position) no_position
     (when (eqb l2.lacks no_place || eqb l1.lacks no_place) no_place
-    0)))))))
+    0)))))
+
+abbrev pub side_ground : ℕ → ℕ → Side → Side → ℕ
+side_ground grid cell l2 l1 = names_ground l2 l1 (trains_ground grid cell l2 l1)
 
 unfoldable pub sos_ground : ℕ → ℕ → Named → Named → ℕ
 sos_ground margin grid l2 l1 =
