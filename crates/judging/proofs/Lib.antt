@@ -1,1 +1,3 @@
 pub mod SlotLaws
+pub mod OkOr
+pub mod TicketLaws

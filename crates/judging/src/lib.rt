@@ -7,53 +7,49 @@ mod slots;
 ghost use Rattle.std.specs.Prelude.{◌≡◌};
 ghost use Rattle.rules.specs.Deeds.{meant};
 ghost use Rattle.rules.specs.Rules.{Op};
+ghost use Rattle.rules.specs.Meant.{answer_meant, ruling_meant};
+ghost use Rattle.store.specs.Stands.{counter_of};
 ghost use Rattle.judging.specs.Judged.{judged, JudgedAlike, end_judged};
 
-use kinds::{LAST_TICKET, Loco, Ticket};
+use kinds::{Loco, Ticket};
 use rules::deeds::Deed;
+use rules::refusals::Refusal;
+use rules::registering;
 use rules::registering::grant;
-use rules::ruling::{Answer, Ruling};
+use rules::ruling::{Ruling, Told};
 use rules::settings::Settings;
 use rules::slots::{is_request, slots_for};
-use rules::{refusals, registering};
 use store::view;
 
 // The first empty row, the next ticket, and the lowest start where the slots are free; or the first ground on which it is refused.
-pub fn request(s: &[u8], settings: Settings, loco: Loco, bytes: u32) -> Ruling
-    ensures { result ≡ judged settings s.now (Op.request loco bytes) }
+pub fn request(s: &[u8], settings: Settings, loco: Loco, bytes: u32) -> Result<Ruling, Refusal>
+    ensures { ruling_meant (counter_of s.now) result ≡ judged settings s.now (Op.request loco bytes) }
 {
-    let counter = view::counter(s);
     if !loco.in_range() {
-        return Ruling::refused(counter, refusals::BAD_LOCO);
+        return Err(Refusal::BadLoco);
     }
     if !is_request(settings.carries, bytes) {
-        return Ruling::refused(counter, refusals::BAD_BYTES);
+        return Err(Refusal::BadBytes);
     }
     if view::find_loco(s, loco).is_some() {
-        return Ruling::refused(counter, refusals::ALREADY_REGISTERED);
+        return Err(Refusal::AlreadyRegistered);
     }
-    let Some(row) = view::find_empty(s) else {
-        return Ruling::refused(counter, refusals::REGISTER_FULL);
-    };
-    if counter >= Ticket(LAST_TICKET) {
-        return Ruling::refused(counter, refusals::NO_TICKET_LEFT);
-    }
+    let row = view::find_empty(s).ok_or(Refusal::RegisterFull)?;
+    let ticket = view::counter(s).next().ok_or(Refusal::NoTicketLeft)?;
     let wanted = slots_for(settings.carries, bytes);
-    match slots::lowest_run(s, wanted) {
-        None => Ruling::refused(counter, refusals::NO_FREE_RUN),
-        Some(start) => grant(loco, wanted, Ticket(counter.0 + 1), row, start),
-    }
+    let start = slots::lowest_run(s, wanted).ok_or(Refusal::NoFreeRun)?;
+    Ok(grant(loco, wanted, ticket, row, start))
 }
 
-pub fn release(s: &[u8], loco: Loco, ticket: Ticket) -> Ruling
-    ensures { JudgedAlike result s.now (Op.release loco ticket) }
+pub fn release(s: &[u8], loco: Loco, ticket: Ticket) -> Result<Ruling, Refusal>
+    ensures { JudgedAlike (ruling_meant (counter_of s.now) result) s.now (Op.release loco ticket) }
 {
     registering::release(named::find(s, loco, ticket), view::counter(s))
 }
 
 // A deed on one train; the flags are looked at where the deed is flags.
-pub fn on(s: &[u8], loco: Loco, ticket: Ticket, deed: Deed, flags: &[u8]) -> Ruling
-    ensures { JudgedAlike result s.now (Op.on loco ticket (meant deed flags.now)) }
+pub fn on(s: &[u8], loco: Loco, ticket: Ticket, deed: Deed, flags: &[u8]) -> Result<Ruling, Refusal>
+    ensures { JudgedAlike (ruling_meant (counter_of s.now) result) s.now (Op.on loco ticket (meant deed flags.now)) }
 {
     acting::on(named::find(s, loco, ticket), deed, flags, view::counter(s))
 }
@@ -67,8 +63,8 @@ pub fn sos(
     loco1: Loco,
     ticket1: Ticket,
     grid: u32,
-) -> Ruling
-    ensures { result ≡ judged settings s.now (Op.sos loco2 ticket2 loco1 ticket1 grid) }
+) -> Result<Ruling, Refusal>
+    ensures { ruling_meant (counter_of s.now) result ≡ judged settings s.now (Op.sos loco2 ticket2 loco1 ticket1 grid) }
 {
     let l2 = named::find(s, loco2, ticket2);
     let l1 = named::find(s, loco1, ticket1);
@@ -76,8 +72,8 @@ pub fn sos(
 }
 
 // The effective end of a named train, which changes nothing.
-pub fn end(s: &[u8], loco: Loco, ticket: Ticket) -> Answer
-    ensures { result ≡ end_judged s.now loco ticket }
+pub fn end(s: &[u8], loco: Loco, ticket: Ticket) -> Result<Told, Refusal>
+    ensures { answer_meant result ≡ end_judged s.now loco ticket }
 {
     acting::end_asked(named::find(s, loco, ticket))
 }

@@ -1,5 +1,5 @@
 -- The three kinds of number that name something in a session: when two are the same, and the range of each.
-use Rattle.std.specs.Prelude.{Bool, ℕ, eqb, ltb}
+use Rattle.std.specs.Prelude.{Bool, cond, ℕ, suc, eqb, ltb, Option, None, Some}
 use Rattle.kinds.specs.{declared.Loco.Loco, declared.Ticket.Ticket, declared.Slot.Slot, Ranges.one_to}
 
 abbrev pub last_loco : ℕ  -- the highest loco number
@@ -34,6 +34,10 @@ loco_in_range a = one_to last_loco a.0
 -- tickets are 1 to 65,535
 abbrev pub ticket_in_range : Ticket → Bool
 ticket_in_range a = one_to last_ticket a.0
+
+-- the ticket after this one; none after the highest
+unfoldable pub next_ticket : Ticket → Option Ticket
+next_ticket a = cond (ltb a.0 last_ticket) (Some (record { 0 = suc a.0 })) None
 
 -- slots are 1 to 44
 abbrev pub slot_in_range : Slot → Bool

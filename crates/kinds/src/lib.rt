@@ -5,7 +5,7 @@
 pub mod ranges;
 
 ghost use Rattle.std.specs.Prelude.{◌≡◌};
-ghost use Rattle.kinds.specs.Kinds.{no_loco, same_loco, loco_in_range, ticket_in_range, slot_in_range};
+ghost use Rattle.kinds.specs.Kinds.{no_loco, same_loco, loco_in_range, ticket_in_range, next_ticket, slot_in_range};
 
 pub const LAST_LOCO: u32 = 131070;
 
@@ -43,6 +43,17 @@ impl Ticket {
         ensures { result ≡ ticket_in_range self }
     {
         ranges::is_one_to(LAST_TICKET, self.0)
+    }
+
+    // The ticket after this one, where there is one left.
+    #[tactic(auto, unfolding(crate::specs::Kinds::next_ticket))]
+    pub fn next(self) -> Option<Ticket>
+        ensures { result ≡ next_ticket self }
+    {
+        if self.0 < LAST_TICKET {
+            return Some(Ticket(self.0 + 1));
+        }
+        None
     }
 }
 

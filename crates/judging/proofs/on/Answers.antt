@@ -1,5 +1,7 @@
 -- `judging::on` meets its contract.
-use mathlib.Core.Path.{◌∙◌}
+use mathlib.Core.Path.{sym, ap, ◌∙◌}
+use Rattle.kinds.specs.declared.Ticket.{Ticket}
+use Rattle.rules.specs.Meant.{ruling_meant}
 use Rattle.rules.specs.Deeds.{meant, done, deed_ground, deed_done}
 use Rattle.rules.specs.Ruling.{ruled}
 use Rattle.rules.specs.Rules.{ground_of, done_by, rule}
@@ -10,7 +12,8 @@ pub returns : goal.returns
 unfolding judged rule ground_of done_by
 returns c settings =
     let a = c.args in
-    c.on.ensures
+    ap (λ (k : Ticket). ruling_meant k c.on.result) (sym c.counter.ensures)
+    ∙ c.on.ensures
     ∙ (λ i. let counter = c.counter.ensures i in
     let named = c.find.ensures i in
     let changed = done (meant a.deed a.flags.now) named.train in

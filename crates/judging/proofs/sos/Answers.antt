@@ -1,5 +1,7 @@
 -- `judging::sos` meets its contract.
-use mathlib.Core.Path.{◌∙◌}
+use mathlib.Core.Path.{sym, ap, ◌∙◌}
+use Rattle.kinds.specs.declared.Ticket.{Ticket}
+use Rattle.rules.specs.Meant.{ruling_meant}
 use Rattle.rules.specs.Raising.{sos_ground, raised}
 use Rattle.rules.specs.Ruling.{ruled}
 use Rattle.rules.specs.Rules.{ground_of, done_by, rule}
@@ -10,7 +12,8 @@ pub returns : goal.returns
 unfolding judged rule ground_of done_by
 returns c =
     let a = c.args in
-    c.raise.ensures
+    ap (λ (k : Ticket). ruling_meant k c.raise.result) (sym c.counter.ensures)
+    ∙ c.raise.ensures
     ∙ (λ i. let counter = c.counter.ensures i in
     let l2 = c.find-l2.ensures i in
     let l1 = c.find-l1.ensures i in
