@@ -11,7 +11,7 @@ ghost use Rattle.host.specs.Told.{number_answer, train_answer};
 use crate::told;
 use crate::told::TrainAnswer;
 use kinds::{Loco, Slot, Ticket};
-use rules::refusals;
+use rules::refusals::Refusal;
 use rules::ruling::Answer;
 use session::questions;
 use store::layout;
@@ -21,7 +21,7 @@ fn tell(session: &[u8], number: u32) -> Answer
     ensures { result ≡ number_answer session.now number }
 {
     if !layout::is_session(session) {
-        return Answer::refused(refusals::WRONG_LENGTH);
+        return Answer::refused(Refusal::WrongLength);
     }
     Answer::accepted(number, 0, 0)
 }
@@ -67,7 +67,7 @@ pub extern "C" fn kb_train(session: &[u8], row: u32) -> TrainAnswer
     ensures { result ≡ train_answer session.now row }
 {
     if !layout::is_session(session) {
-        return TrainAnswer::refused(refusals::WRONG_LENGTH);
+        return TrainAnswer::refused(Refusal::WrongLength.number());
     }
     told::tell(questions::train(session, row))
 }

@@ -2,7 +2,7 @@
 ghost use Rattle.std.specs.Prelude.{◌≡◌};
 ghost use Rattle.records.specs.Told.{not_run, run_with};
 
-use rules::refusals;
+use rules::refusals::Refusal;
 use rules::ruling::Answer;
 
 // Its line's six numbers, and the bytes that it used.
@@ -37,6 +37,6 @@ impl Ran {
     pub fn not_run(before: u32) -> Ran
         ensures { result ≡ not_run before }
     {
-        Ran::run_with(before, 0, 0, Answer::refused(refusals::BAD_RECORD))
+        Ran::run_with(before, 0, 0, Answer::refused(Refusal::BadRecord))
     }
 }

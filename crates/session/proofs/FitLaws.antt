@@ -17,7 +17,7 @@ use Rattle.kinds.specs.declared.Loco.{Loco}
 use Rattle.kinds.specs.declared.Ticket.{Ticket}
 use Rattle.trains.specs.declared.record.Train.{Train}
 use Rattle.kinds.proofs.RangeLaws.{position-ends}
-use Rattle.rows.proofs.FitLaws.{Byte, LocationFits, Fits, fits_read, fits_fresh, fits-position, fits-authority, fits-danger, fits-mode, fits_cleared}
+use Rattle.rows.proofs.FitLaws.{Byte, OptionalFits, Fits, fits_read, fits_fresh, fits-position, fits-authority, fits-danger, fits-mode, fits_cleared}
 use Rattle.rows.proofs.RowLaws.{row-zeros}
 use Rattle.rules.specs.Deeds.{Deed, flags, position, authority, danger, clear, done, changed_if, changed_with, step_taken, mode_stepped}
 use Rattle.rules.specs.Named.{named_in}
@@ -41,11 +41,11 @@ fits-blank = subst Fits (row-zeros [] 0 (λ i l. refl)) (fits_read [] 0)
 
 -- ---- each deed
 
-location-fits : (number : ℕ) → is_none_or_location number ≡ true → LocationFits (location_from number)
+location-fits : (number : ℕ) → is_none_or_location number ≡ true → OptionalFits (location_from number)
 unfolding is_none_or_location location_from
 location-fits number e = go (eqb number none) e
   where
-    go : (b : Bool) → (b || is_location number) ≡ true → LocationFits (cond b None (Some number))
+    go : (b : Bool) → (b || is_location number) ≡ true → OptionalFits (cond b None (Some number))
     go true h = tt
     go false h = let l : number ≤ last_location = leb-true number last_location h in omega arith
 

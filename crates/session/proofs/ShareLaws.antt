@@ -4,7 +4,7 @@ use mathlib.Core.Bool.{Bool, true, false, cond}
 use Prim.Native.Nat.{ℕ, ◌^◌, ◌<◌}
 use native.Mathlib.Omega.{arith}
 use lib.Dec.{eqb}
-use Rattle.rows.proofs.FitLaws.{Word, PositionFits, LimitFits, Fits, fits-order}
+use Rattle.rows.proofs.FitLaws.{Word, PositionFits, OptionalFits, Fits, fits-order}
 use Rattle.sos.specs.Shares.{own_front, behind, by_measure, share_of_l1, share_behind, share_of_l2}
 use Rattle.sos.specs.declared.shares.Share.{Share}
 use Rattle.sos.specs.declared.shares.Share.TheVariants.{Nothing, NoPosition, Order}
@@ -17,7 +17,7 @@ use Rattle.rules.specs.Raising.{share_taken}
 unfoldable pub ShareFits : Share → Type 0
 ShareFits Nothing = Unit {0}
 ShareFits NoPosition = Unit {0}
-ShareFits (Order limit) = LimitFits limit
+ShareFits (Order limit) = OptionalFits limit
 
 nothing-fits : ShareFits Nothing
 unfolding ShareFits
@@ -35,7 +35,7 @@ own_front-fits (Some p) f = f.0
 behind-fits : (p : Option Position) (distance : ℕ) → PositionFits p → ShareFits (behind p distance)
 unfolding behind ShareFits
 behind-fits None distance f = tt
-behind-fits (Some p) distance f = let h : rear < 2 ^ 32 = f.1 in omega arith
+behind-fits (Some p) distance f = let h : p.rear < 2 ^ 32 = f.1 in omega arith
 
 either_fits : (b : Bool) (x y : Share) → ShareFits x → ShareFits y → ShareFits (cond b x y)
 either_fits true x y f g = f

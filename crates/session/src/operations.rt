@@ -1,30 +1,34 @@
 // THE OPERATIONS on a lent session. Each judges first and then takes the effect in; a refusal changes no byte.
 ghost use Rattle.std.specs.Prelude.{◌≡◌};
 ghost use Rattle.rules.specs.Deeds.{meant};
+ghost use Rattle.rules.specs.Meant.{ruling_meant};
 ghost use Rattle.rules.specs.Rules.{Op};
+ghost use Rattle.store.specs.Stands.{counter_of};
 ghost use Rattle.stepback.specs.Back.{of_session};
 ghost use Rattle.session.specs.Answers.{taken, answer_to, bytes_after, start_answer, start_after};
 
 use kinds::{Loco, Ticket};
 use ledger::settled;
 use rules::deeds::Deed;
-use rules::refusals;
+use rules::refusals::Refusal;
 use rules::ruling::{Answer, Ruling};
 use store::{emptied, layout};
 
 // The one way in which an operation ends: bytes that are no session are refused, and a ruling that accepts is taken in.
-fn commit(ruling: Ruling, session: &mut [u8]) -> Answer
-    ensures value { result ≡ of_session session.old ruling.answer }
-    ensures session_after { session.new ≡ taken session.old ruling }
+fn commit(ruling: Result<Ruling, Refusal>, session: &mut [u8]) -> Answer
+    ensures value { result ≡ of_session session.old (ruling_meant (counter_of session.old) ruling).answer }
+    ensures session_after { session.new ≡ taken session.old (ruling_meant (counter_of session.old) ruling) }
 {
     if !layout::is_session(session) {
-        return Answer::refused(refusals::WRONG_LENGTH);
+        return Answer::refused(Refusal::WrongLength);
     }
-    let answer = ruling.answer;
-    if answer.answer == 0 {
-        settled::settle(session, ruling.counter, ruling.effect);
+    match ruling {
+        Ok(ruling) => {
+            settled::settle(session, ruling.counter, ruling.effect);
+            Answer::of(Ok(ruling.told))
+        }
+        Err(reason) => Answer::refused(reason),
     }
-    answer
 }
 
 // Makes the empty session.
@@ -33,7 +37,7 @@ pub fn start(session: &mut [u8]) -> Answer
     ensures session_after { session.new ≡ start_after session.old }
 {
     if !layout::is_session(session) {
-        return Answer::refused(refusals::WRONG_LENGTH);
+        return Answer::refused(Refusal::WrongLength);
     }
     emptied::clear(session);
     Answer::accepted(0, 0, 0)

@@ -5,7 +5,7 @@ ghost use Rattle.store.specs.Stands.{view_of, book_of, counter_of, kept_of};
 ghost use Rattle.session.specs.Answers.{end_answer_to};
 
 use kinds::{Loco, Slot, Ticket};
-use rules::refusals;
+use rules::refusals::Refusal;
 use rules::ruling::Answer;
 use store::{layout, view};
 use trains::record::Train;
@@ -22,9 +22,9 @@ pub fn end(session: &[u8], loco: Loco, ticket: Ticket) -> Answer
     ensures { result ≡ end_answer_to session.now loco ticket }
 {
     if !layout::is_session(session) {
-        return Answer::refused(refusals::WRONG_LENGTH);
+        return Answer::refused(Refusal::WrongLength);
     }
-    judging::end(session, loco, ticket)
+    Answer::of(judging::end(session, loco, ticket))
 }
 
 // The ticket counter.

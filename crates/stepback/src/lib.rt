@@ -5,7 +5,7 @@ ghost use Rattle.std.specs.Prelude.{◌≡◌};
 ghost use Rattle.stepback.specs.Back.{back_answer, back_after};
 
 use ledger::back;
-use rules::refusals;
+use rules::refusals::Refusal;
 use rules::ruling::Answer;
 use store::{layout, view};
 
@@ -15,12 +15,12 @@ pub fn step_back(session: &mut [u8], k: u32) -> Answer
     ensures session_after { session.new ≡ back_after session.old k }
 {
     if !layout::is_session(session) {
-        return Answer::refused(refusals::WRONG_LENGTH);
+        return Answer::refused(Refusal::WrongLength);
     }
     let kept = view::kept(session);
     let steps = k as usize;
     if kept < steps {
-        return Answer::refused(refusals::TOO_FAR_BACK);
+        return Answer::refused(Refusal::TooFarBack);
     }
     back::step_back(session, steps);
     Answer::accepted((kept - steps) as u32, 0, 0)

@@ -1,4 +1,5 @@
 -- `stepback::step_back` meets its contract.
+use Rattle.rules.specs.Refusals.{number_of}
 use mathlib.Core.Path.{sym, ap, ◌∙◌}
 use native.Mathlib.Omega.{arith}
 use Prim.Native.Nat.{ℕ, ◌-◌}
@@ -9,7 +10,7 @@ use Rattle.stepback.proofs.BackLaws.{of_none, back_elsewhere, back_refused, back
 use Rattle.stepback.proofs.step_back.Goals as goal
 
 pub returns-then-not-is_session : goal.returns-then-not-is_session
-unfolding back_answer
+unfolding back_answer number_of
 returns-then-not-is_session c =
     let a = c.args in
     let none = sym c.is_session.ensures ∙ c.if-not-is_session.true in
@@ -19,6 +20,7 @@ returns-then-not-is_session c =
     }
 
 pub returns-then-kept-steps : goal.returns-then-kept-steps
+unfolding number_of
 returns-then-kept-steps c =
     let a = c.args in
     let whole = sym c.is_session.ensures ∙ c.if-not-is_session.false in

@@ -1,4 +1,5 @@
 -- `session::operations::start` meets its contract.
+use Rattle.rules.specs.Refusals.{number_of}
 use mathlib.Core.Path.{sym, ◌∙◌}
 use mathlib.Core.Bool.{cond}
 use Rattle.store.specs.Emptied.{emptied}
@@ -7,7 +8,7 @@ use Rattle.stepback.proofs.BackLaws.{of-session, of_none}
 use Rattle.session.proofs.operations.start.Goals as goal
 
 pub returns-then-not-is_session : goal.returns-then-not-is_session
-unfolding start_answer start_after
+unfolding start_answer start_after number_of
 returns-then-not-is_session c =
     let bs = c.args.session.now in
     let none = sym c.is_session.ensures ∙ c.if-not-is_session.true in
