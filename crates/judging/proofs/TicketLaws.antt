@@ -1,6 +1,6 @@
 -- The next ticket as the rules have it.
-use Rattle.std.specs.Prelude.{Bool, true, false, cond, suc, ltb, Option, None, Some}
-use mathlib.Core.Path.{◌≡◌, refl, sym}
+use Rattle.std.specs.Prelude.{Bool, true, false, cond, suc, ltb, None, Some}
+use mathlib.Core.Path.{◌≡◌, refl}
 use Rattle.kinds.specs.declared.Ticket.{Ticket}
 use Rattle.kinds.specs.Kinds.{last_ticket, is_above, next_ticket}
 use Rattle.rules.specs.Registering.{ticket_of, ticket_for}

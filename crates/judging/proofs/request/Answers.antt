@@ -1,5 +1,5 @@
 -- `judging::request` meets its contract: at each way out the checks before it are passed.
-use mathlib.Core.Path.{◌≡◌, refl, sym, ap, ◌∙◌}
+use mathlib.Core.Path.{sym, ap, ◌∙◌}
 use Rattle.rules.specs.Meant.{ruling_meant}
 use Rattle.rules.specs.Refusals.{number_of}
 use Rattle.kinds.specs.Kinds.{next_ticket}
