@@ -9,7 +9,6 @@ use lib.Dec.{eqb}
 use lib.ListN.{length, take, drop, length-append, length-drop, drop_of_length-le, take-append-drop}
 use lib.Seq.{take_all, take-take, length-take-le, take-nil, drop-drop}
 use borrow.Author.Tests.{ltb-false, eqb-true, eqb-false}
-use borrow.Rule.Slice.PartMut.{put_mid, take_put}
 use Rattle.std.proofs.lemmas.List.Edits.{take-paste}
 use Rattle.std.specs.List.{copy_within}
 use Rattle.holding.specs.declared.Held.{Held}
@@ -92,11 +91,6 @@ moved-to-front : (b : List ℕ) (a e : ℕ) → e ≤ length b → take (e - a) 
 moved-to-front b a e h =
     let n : e - a ≡ 0 + (e - a) = omega arith in
     ap (λ (k : ℕ). take k (copy_within b a e 0)) n ∙ take-paste b 0 (drop a b) (e - a) (omega arith) (rw length-drop (omega arith))
-
--- a read from `end` on leaves what stands before
-pub read_keeps : (xs ys : List ℕ) (kept end k : ℕ) → kept ≤ end → end ≤ length xs → take kept (put_mid end k xs ys) ≡ take kept xs
-read_keeps xs ys kept end k l h =
-    sym (take-take kept end (put_mid end k xs ys) l) ∙ ap (take kept) (take_put end k xs ys h) ∙ take-take kept end xs l
 
 -- b is the buffer before its bytes are moved, t then, and u when read on; a and e are the offsets kept within the buffer
 module _ (longest : ℕ) (b t u : List ℕ) (h r : Held) (a e : ℕ) (he : e ≡ min h.end (length b)) (ha : a ≡ min h.at e) (more-come : h.ended ≡ false)
