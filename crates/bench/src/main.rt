@@ -89,6 +89,7 @@ impl Play {
     }
 
     // One turn: more of the recording is read where too little is held, and what is pending is written where a line has no room.
+    // The session and both buffers are lent one by one: a struct of them is no plainer, since each clause would have to say which of them stay.
     fn step<R: Read, W: Write>(
         self,
         reader: &mut R,
