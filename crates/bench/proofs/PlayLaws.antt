@@ -170,14 +170,6 @@ module _ (p : Play) (held : Held) (pending : Pending) (first session output : Li
   abbrev first_ran : Ran
   first_ran = ran_record session first p.lines
 
-  pub runs_none : {r : Play} → is_end held first ≡ true → r ≡ stopped_at p held pending → RunsFirst p held pending first session output session output r
-  runs_none e known = record {
-    short = λ n. let z : ◌≡◌ {A = ℕ} 0 1 = cc (n, e) in absurd (omega arith);
-    result = known ∙ ap (λ (b : Bool). cond b (stopped_at p held pending) (played_on p held pending first_ran)) (sym e);
-    bytes = ap (λ (b : Bool). cond b session (bytes_after_record session first p.lines)) (sym e);
-    text = ap (λ (b : Bool). cond b output (put_at output pending.filled (text_of first_ran))) (sym e);
-  }
-
   pub runs-one : {turn : Turn} {session' output' : List ℕ} {h : Held} {q : Pending} → is_end held first ≡ false
       → ((turn ≡ turn_of first_ran) × (turn.length ≤ room))
       × ((session' ≡ bytes_after_record session first p.lines) × (output' ≡ put_at output pending.filled (text_of first_ran)))
@@ -290,16 +282,6 @@ fewer {b} {a} {p} {r} o h t = rw o (of (goes_on r) refl)
     of false g = omega arith
 
 -- ---- the last line
-
-not_ended_text : (s t : List ℕ) (over : Bool) → over ≡ false → s ≡ s ++ cond over t []
-not_ended_text s t over o = sym (append-nil s) ∙ ap (λ (b : Bool). s ++ cond b t []) (sym o)
-
-pub not_ended : (play : Play) (output : List ℕ) → play.over ≡ false → IsEnded play output output play.pending
-not_ended play output o = record {
-  sent = [];
-  text = not_ended_text (pending_bytes output play.pending) (end_line play.lines play.accepted) play.over o;
-  writable = λ w. w;
-}
 
 pub end-put : (play : Play) (before after : List ℕ) (p r : Pending) (n : ℕ) → play.over ≡ true → HasRoom before play.pending p
     → ((n ≡ length (end_line play.lines play.accepted)) × (n ≤ room)) × (after ≡ put_at before p.filled (end_line play.lines play.accepted))

@@ -1,10 +1,10 @@
 // What is still to be written of the listing: the first bytes of a buffer that is written when it is full.
 ghost use Rattle.std.specs.Prelude.{true, ◌≡◌, ◌+◌, ◌≤◌, ◌<◌, ◌^◌, length};
+ghost use Rattle.std.specs.Io.KnownBytes.{Appends};
 ghost use Rattle.lines.specs.Line.{room};
-ghost use Rattle.bench.specs.Pending.{nothing_pending, with_more, HasRoom};
+ghost use Rattle.bench.specs.Pending.{pending_bytes, nothing_pending, with_more, HasRoom};
 
-// The descriptor of the standard output.
-const STDOUT_FILENO: i32 = 1;
+use std::io::Write;
 
 // The first `filled` bytes of the buffer. It is writable until a write fails.
 #[derive(Clone, Copy)]
@@ -30,36 +30,30 @@ impl Pending {
     {
         Pending {
             filled: self.filled + n,
-            writable: self.writable,
+            ..self
         }
     }
-}
 
-// Writes what is pending. Behind a write that failed nothing more is written.
-pub(crate) fn written(buffer: &[u8], pending: Pending) -> Pending
-    ensures { (result.filled ≡ 0) × (result.writable ≡ true → pending.writable ≡ true) }
-{
-    if !pending.writable {
-        return Pending {
+    // Writes what is pending. Behind a write that failed nothing more is written.
+    pub(crate) fn written<W: Write>(self, out: &mut W, buffer: &[u8]) -> Pending
+        ensures rest { (result.filled ≡ 0) × (result.writable ≡ true → self.writable ≡ true) }
+        ensures bytes { result.writable ≡ true → Appends (W.contents out.old) (W.contents out.new) (pending_bytes buffer.now self) }
+    {
+        let text = &buffer[..self.filled.min(buffer.len())];
+        Pending {
             filled: 0,
-            writable: false,
-        };
+            writable: self.writable && out.write_all(text).is_ok(),
+        }
     }
-    let n = numbers::at_most(pending.filled, buffer.len());
-    let is_written = io::write_all(STDOUT_FILENO, &buffer[0..n]);
-    Pending {
-        filled: 0,
-        writable: is_written,
-    }
-}
 
-// Where the buffer has no room for a line behind what is pending, that is written first.
-pub(crate) fn with_room(buffer: &[u8], pending: Pending) -> Pending
-    requires { room ≤ length buffer.now }
-    ensures { HasRoom buffer.now pending result }
-{
-    if buffer.len() - lines::ROOM < pending.filled {
-        return written(buffer, pending);
+    // Where the buffer has no room for a line behind what is pending, that is written first.
+    pub(crate) fn with_room<W: Write>(self, out: &mut W, buffer: &[u8]) -> Pending
+        requires { room ≤ length buffer.now }
+        ensures { HasRoom buffer.now self result }
+    {
+        if buffer.len() - lines::ROOM < self.filled {
+            return self.written(out, buffer);
+        }
+        self
     }
-    pending
 }

@@ -4,18 +4,15 @@ use mathlib.Core.Bool.{Bool, true, false, ◌||◌}
 use mathlib.Core.List.{List, [], ◌∷◌, ◌++◌, append-nil}
 use Prim.Native.Nat.{ℕ, zero, suc, ◌+◌, ◌-◌, ◌≤◌, ◌<◌, min}
 use native.Mathlib.Decide.{dec_lt}
-use native.Mathlib.Numerals.{add-one}
 use native.Mathlib.Omega.{arith}
 use lib.Dec.{eqb}
-use lib.IntN.{ℤ, pos, negsuc}
-use lib.ListN.{length, take, drop, get_or, set, length-append, length-drop, drop_of_length-le, take-append-drop}
-use lib.Seq.{take_all, take-take, length-take-le, take-nil, drop-drop, take-suc, take-suc-set, drop-set-lt, get_or-drop}
+use lib.ListN.{length, take, drop, length-append, length-drop, drop_of_length-le, take-append-drop}
+use lib.Seq.{take_all, take-take, length-take-le, take-nil, drop-drop}
 use borrow.Author.Tests.{ltb-false, eqb-true, eqb-false}
-use borrow.Rule.Slice.PartMut.{put_mid, take_put}
-use Rattle.io.specs.Counts.{clamp_len}
-use Rattle.holding.specs.declared.Got.{Got}
+use Rattle.std.proofs.lemmas.List.Edits.{take-paste}
+use Rattle.std.specs.List.{copy_within}
 use Rattle.holding.specs.declared.Held.{Held}
-use Rattle.holding.specs.Held.{stretch, held_bytes, behind_by, is_end, got_by, IsReady, ReadOn}
+use Rattle.holding.specs.Held.{stretch, held_bytes, behind_by, is_end, IsReady, ReadOn}
 
 -- ---- a stretch whose offsets are kept within the buffer
 
@@ -87,42 +84,24 @@ behind-held b h used = of (dec_lt (h.at + used) h.end) ∙ sym (stretch-drop b h
     of (yes l) = ap (λ (n : ℕ). stretch b n h.end) (omega arith)
     of (no l) = empty_past b (min (h.at + used) h.end) h.end (omega arith) ∙ sym (empty_past b (h.at + used) h.end (omega arith))
 
--- ---- bytes moved to the front, one by one
-
-module _ (s t : List ℕ) (at i : ℕ) (h : at + i < length s) (same : length t ≡ length s) (kept : drop i t ≡ drop i s) where
-  moved-byte : get_or t (at + i) 0 ≡ get_or (drop at s) i 0
-  moved-byte =
-      let e : i + at ≡ at + i = omega arith in
-      let here : get_or t (i + at) 0 ≡ get_or s (i + at) 0 = sym (get_or-drop i t at 0) ∙ ap (λ (l : List ℕ). get_or l at 0) kept ∙ get_or-drop i s at 0 in
-      rw (get_or-drop, ← e) here
-
-  pub moved_front : take i t ≡ take i (drop at s) → take (i + 1) (set t i (get_or t (at + i) 0)) ≡ take (i + 1) (drop at s)
-  moved_front front =
-      let l : i < length (drop at s) = rw length-drop (omega arith) in
-      rw (add-one, take-suc-set t i (get_or t (at + i) 0) (omega arith), take-suc (drop at s) i 0 l, front, moved-byte)
-
-  pub moved-rest : drop (i + 1) (set t i (get_or t (at + i) 0)) ≡ drop (i + 1) s
-  moved-rest =
-      drop-set-lt (i + 1) t i (get_or t (at + i) 0) (omega arith)
-      ∙ sym (drop-drop 1 i t) ∙ ap (drop 1) kept ∙ drop-drop 1 i s
-
 -- ---- read on behind what was moved
 
--- a read from `end` on leaves what stands before
-pub read_keeps : (xs ys : List ℕ) (kept end k : ℕ) → kept ≤ end → end ≤ length xs → take kept (put_mid end k xs ys) ≡ take kept xs
-read_keeps xs ys kept end k l h =
-    sym (take-take kept end (put_mid end k xs ys) l) ∙ ap (take kept) (take_put end k xs ys h) ∙ take-take kept end xs l
+-- the bytes of a stretch that is moved to the front stand there
+moved-to-front : (b : List ℕ) (a e : ℕ) → e ≤ length b → take (e - a) (copy_within b a e 0) ≡ take (e - a) (drop a b)
+moved-to-front b a e h =
+    let n : e - a ≡ 0 + (e - a) = omega arith in
+    ap (λ (k : ℕ). take k (copy_within b a e 0)) n ∙ take-paste b 0 (drop a b) (e - a) (omega arith) (rw length-drop (omega arith))
 
 -- b is the buffer before its bytes are moved, t then, and u when read on; a and e are the offsets kept within the buffer
 module _ (longest : ℕ) (b t u : List ℕ) (h r : Held) (a e : ℕ) (he : e ≡ min h.end (length b)) (ha : a ≡ min h.at e) (more-come : h.ended ≡ false)
-    (moved : take (e - a) t ≡ take (e - a) (drop a b)) (on : ReadOn longest (e - a) t u r) where
+    (moved : t ≡ copy_within b a e 0) (on : ReadOn longest (e - a) t u r) where
   held_all : held_bytes u r ≡ take r.end u
   unfolding stretch
   held_all = let z : r.end - 0 ≡ r.end = omega arith in rw (on.front, z)
 
   first : take (e - a) u ≡ held_bytes b h
   unfolding stretch
-  first = on.same ∙ moved ∙ stretch_within b h.at h.end a e he ha
+  first = on.same ∙ ap (take (e - a)) moved ∙ moved-to-front b a e (omega arith) ∙ stretch_within b h.at h.end a e he ha
 
   pub read-ready : IsReady longest b h u r
   read-ready =
@@ -144,15 +123,6 @@ stays-ready longest b h enough = record {
   enough = enough;
   failed = λ f n. f;
 }
-
--- a read gives no more than there is room for
-clamped_most : (answer : ℤ) (most : ℕ) → clamp_len answer most ≤ most
-clamped_most (pos k) most = omega arith
-clamped_most (negsuc k) most = omega arith
-
-pub count-inside : (g : Got) (answer : ℤ) (most : ℕ) → g ≡ got_by answer most → g.count ≤ most
-unfolding got_by
-count-inside g answer most e = omega (arith, ap (λ (g : Got). g.count) e, clamped_most answer most)
 
 -- ---- whether an item is there
 

@@ -1,9 +1,8 @@
 -- What is held of an input: a stretch of a buffer. `longest` is the bytes of the longest item.
 use mathlib.Core.{Bool.Bool, Bool.true, Bool.false, Bool.◌||◌, List.List, List.[], List.◌++◌, Path.◌≡◌}
 use Rattle.std.specs.Prelude.{ℕ, ◌+◌, ◌-◌, ◌≤◌, min}
-use lib.{Dec.eqb, Dec.ltb, IntN.ℤ, IntN.pos, ListN.length, ListN.take, ListN.drop, Signed.lt_z}
-use Rattle.io.specs.Counts.{clamp_len}
-use Rattle.holding.specs.{declared.Got.Got, declared.Held.Held}
+use lib.{Dec.eqb, Dec.ltb, ListN.length, ListN.take, ListN.drop}
+use Rattle.holding.specs.declared.Held.{Held}
 
 -- the bytes of a buffer from one offset up to another
 unfoldable pub stretch : List ℕ → ℕ → ℕ → List ℕ
@@ -28,14 +27,6 @@ behind_by used h = record { at = min (h.at + used) h.end; end = h.end; ended = h
 -- there is no item: nothing can be read, or nothing is left
 unfoldable pub is_end : Held → List ℕ → Bool
 is_end h bytes = h.failed || eqb (length bytes) 0
-
--- an answer of the system that is below 0 says that it failed
-abbrev pub is_failure : ℤ → Bool
-is_failure answer = lt_z answer (pos 0)
-
--- what a read of so many bytes gave, by the system's answer
-unfoldable pub got_by : ℤ → ℕ → Got
-got_by answer most = record { count = clamp_len answer most; failed = is_failure answer }
 
 -- what reading behind the first `kept` bytes of a buffer does: they stay, what is held begins with them, and the input has ended where fewer
 -- bytes are held than the longest item has

@@ -7,6 +7,7 @@ use native.Mathlib.Omega.{arith}
 use borrow.Author.Tests.{le-leb, lt-leb}
 use lib.ListN.{length, take, drop, length-append, length-drop}
 use lib.Seq.{take_all, drop-drop}
+use Rattle.std.specs.Prelude.{Ok, Err}
 use Rattle.lines.specs.Line.{room}
 use Rattle.lines.specs.Text.{run_line, end_line}
 use Rattle.recording.specs.Recorded.{empty_session}
@@ -111,6 +112,19 @@ module _ {all input before : List ℕ} {from : ℕ} {session after : List ℕ} {
         λ large. says.1 ∙ put_on over r text [] (append-nil (r.so_far ++ text) ∙ whole) large ∙ ap (put_at before from) whole,
       )
 
+-- where a loop over the turns stops: it is over, or nothing is left
+pub record Stopped (all input before : List ℕ) (from : ℕ) (session after : List ℕ) (written lines accepted : ℕ) : Type 0 where
+  pub at : ℕ
+  pub over : Bool
+  pub reached : Reached all input before from session after written at lines accepted over
+  pub none : over ≡ false → length input ≤ at
+
+pub stopped_end : {all input before : List ℕ} {from : ℕ} {session after after' : List ℕ} {written lines accepted n : ℕ}
+    → Stopped all input before from session after written lines accepted
+    → ((n ≡ length (end_line lines accepted)) × (n ≤ room)) × (after' ≡ put_at after written (end_line lines accepted))
+    → IsPutFrom all from before after' (written + n)
+stopped_end s says = reached_end s.reached s.none says
+
 -- the first line, and the rest behind it, are the listing
 pub put_all : (input before begun after session : List ℕ) (first end : ℕ) → session ≡ empty_session
     → ((first ≡ length run_line) × (first ≤ room)) × (begun ≡ put_at before 0 run_line) → length begun ≡ length before
@@ -136,7 +150,7 @@ none_before (x ∷ s) t e = absurd (omega arith)
 
 module _ (input output : List ℕ) (n : ℕ) (e : n ≡ 0 + length (listing input)) where
   pub list-refused : length output < n
-      → (record { answer = output_too_small; written = 0 } ≡ listed_into (length output) input) × (output ≡ put_at output 0 (listing input))
+      → (Err output_too_small ≡ listed_into (length output) input) × (output ≡ put_at output 0 (listing input))
   unfolding listed_into
   list-refused h = (
     rw (lt-leb (length (listing input)) (length output) (omega arith)),
@@ -144,10 +158,10 @@ module _ (input output : List ℕ) (n : ℕ) (e : n ≡ 0 + length (listing inpu
   )
 
   pub list-accepted : n ≤ length output → {after : List ℕ} {end : ℕ} → IsPutFrom (listing input) 0 output after end
-      → (record { answer = 0; written = end } ≡ listed_into (length output) input) × (after ≡ put_at output 0 (listing input))
+      → (Ok end ≡ listed_into (length output) input) × (after ≡ put_at output 0 (listing input))
   unfolding listed_into
   list-accepted h {after} {end} put = (
     rw (le-leb (length (listing input)) (length output) (omega arith))
-        (ap (λ (k : ℕ). record { answer = 0; written = k }) {x = end} {y = length (listing input)} (omega (arith, put.0))),
+        (ap (λ (k : ℕ). Ok k) {x = end} {y = length (listing input)} (omega (arith, put.0))),
     put.1 (omega arith),
   )

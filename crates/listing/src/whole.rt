@@ -7,14 +7,10 @@ ghost use Rattle.listing.specs.Whole.{listed_into, IsPutFrom};
 
 use crate::runs;
 
-// The only refusal: the output is too small for the listing.
-pub const OUTPUT_TOO_SMALL: u32 = 1;
-
-// The answer, and the bytes of the listing that was written.
-#[derive(Clone, Copy)]
-pub struct Listed {
-    pub answer: u32,
-    pub written: usize,
+// The grounds of refusal, by their numbers. The only one: the output is too small for the listing.
+#[derive(Clone, Copy, Debug, PartialEq, Eq)]
+pub enum Refused {
+    OutputTooSmall = 1,
 }
 
 // The lines of the records from `from` on, and the last line, each put where it fits. Gives where they end.
@@ -23,17 +19,18 @@ fn put_records(recording: &[u8], session: &mut [u8], output: &mut [u8], from: us
     ensures { IsPutFrom (listed_from session.old recording.now 0 0) from output.old output.new result }
 {
     let mut written = from;
-    let mut at: usize = 0;
+    let mut at = 0;
     let mut lines: u64 = 0;
     let mut accepted: u64 = 0;
-    let mut over = false;
-    while !over && at < recording.len() {
+    while at < recording.len() {
         let turn = runs::next(session, &recording[at..], lines as u32, output, written);
         at += turn.used;
         written += turn.length;
         lines += 1;
         accepted += turn.accepted;
-        over = turn.last;
+        if turn.last {
+            break;
+        }
     }
     written + turns::end(output, written, lines, accepted)
 }
@@ -47,18 +44,14 @@ fn put_all(recording: &[u8], output: &mut [u8]) -> usize
     put_records(recording, &mut session, output, first)
 }
 
-// The listing is put only once it is known to fit, so that a refusal leaves the output as it was.
-pub fn list(recording: &[u8], output: &mut [u8]) -> Listed
+// The bytes of the listing, which is put only once it is known to fit, so that a refusal leaves the output as it was.
+pub fn list(recording: &[u8], output: &mut [u8]) -> Result<usize, Refused>
     ensures value { result ≡ listed_into (length output.old) recording.now }
     ensures output_after { output.new ≡ put_at output.old 0 (listing recording.now) }
 {
     let length = put_all(recording, &mut output[..0]);
     if output.len() < length {
-        return Listed {
-            answer: OUTPUT_TOO_SMALL,
-            written: 0,
-        };
+        return Err(Refused::OutputTooSmall);
     }
-    let written = put_all(recording, output);
-    Listed { answer: 0, written }
+    Ok(put_all(recording, output))
 }

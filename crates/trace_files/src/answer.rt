@@ -7,23 +7,13 @@ ghost use Rattle.trace_files.specs.Answer.{name_of, mode_text, yes_text, which_t
 use crate::files::File;
 use lines::Line;
 use traces::entry;
+use traces::entry::Judged;
 use transitions::names;
 
 // The names of the modes, from 1 on.
 const NAMES: [[u8; 2]; 13] = [
-    [b'S', b'B'],
-    [b'S', b'R'],
-    [b'L', b'S'],
-    [b'F', b'S'],
-    [b'O', b'V'],
-    [b'O', b'S'],
-    [b'T', b'R'],
-    [b'P', b'T'],
-    [b'R', b'V'],
-    [b'S', b'H'],
-    [b'N', b'L'],
-    [b'S', b'F'],
-    [b'I', b'S'],
+    *b"SB", *b"SR", *b"LS", *b"FS", *b"OV", *b"OS", *b"TR", *b"PT", *b"RV", *b"SH", *b"NL", *b"SF",
+    *b"IS",
 ];
 
 // A mode's name behind a line; what is no mode has none.
@@ -53,7 +43,7 @@ fn yes_line(entries: u64) -> Line
         .with_words(b"\n")
 }
 
-// Which of an entry's modes is wrong.
+// Which of an entry's modes is wrong, by the code that the C interface tells it with (`Judged`, a C struct).
 fn with_which(line: Line, which: u32) -> Line
     ensures { result ≡ with_text line (which_text which) }
 {
@@ -98,13 +88,13 @@ pub(crate) fn line(file: File, first: &[u8]) -> Line
     requires { file.entries ≤ most_entries }
     ensures { result ≡ written (answer_text file first.now) }
 {
-    let judged = file.judged;
-    if judged.is_right() {
+    if file.judged.is_right() {
         return yes_line(file.entries);
     }
     let number = file.entries + 1;
-    if judged.answer != 0 {
-        return refused_line(number, judged.answer);
+    let Judged { answer, wrong, due } = file.judged;
+    if answer != 0 {
+        return refused_line(number, answer);
     }
-    wrong_line(number, judged.wrong, judged.due, found(judged.wrong, first))
+    wrong_line(number, wrong, due, found(wrong, first))
 }

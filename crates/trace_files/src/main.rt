@@ -4,10 +4,11 @@
 
 mod answer;
 mod files;
+mod outcome;
 mod telling;
 
 fn main(rt: HostRuntime) {
     let mut input = io::large_buffer();
     let file = files::check_all(&mut rt.stdin(), &mut input);
-    telling::finish(file, holding::part(&input, file.held));
+    telling::finish(&rt, file, holding::part(&input, file.held));
 }

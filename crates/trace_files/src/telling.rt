@@ -1,4 +1,5 @@
-// What a vendor and the calling script are told of a trace that was checked. What is put goes to standard output, and says whether it could be written.
+// What a vendor and the calling script are told of a trace that was checked: its answer on standard output, what stopped the check on standard error,
+// and the outcome on a descriptor of its own.
 ghost use Rattle.std.specs.Prelude.{◌≡◌, ◌≤◌};
 ghost use Rattle.trace_files.specs.Turns.{most_entries};
 ghost use Rattle.trace_files.specs.Reasons.{bad_flag};
@@ -6,143 +7,116 @@ ghost use Rattle.trace_files.specs.Outcome.{outcome_of};
 
 use crate::answer;
 use crate::files::File;
+use crate::outcome::Outcome;
 use lines::ROOM;
+use std::io::Result;
 use traces::entry;
 use transitions::names;
 
-// The descriptors of the standard output and error.
-const STDOUT_FILENO: i32 = 1;
-
-const STDERR_FILENO: i32 = 2;
-
-// Where the outcome is told, as a digit.
+// Where the outcome is told, as a digit. std has no handle for this descriptor, so the kit's `io` writes it.
 const OUTCOME_FILENO: i32 = 3;
 
-const IS_RIGHT: u64 = 0;
-
-const IS_NOT_RIGHT: u64 = 1;
-
-const NOT_DONE: u64 = 2;
-
-fn put(text: &[u8]) -> bool {
-    io::write_all(STDOUT_FILENO, text)
-}
-
-fn put_number(n: u64) -> bool {
-    io::print_decimal(STDOUT_FILENO, n)
-}
-
 // An entry that is none, which would begin at this byte of the trace.
-fn put_form(byte: u64, first: &[u8]) -> bool {
+fn put_form(rt: &impl Print, byte: u64, first: &[u8]) -> Result<()> {
     if first.len() < entry::BYTES {
-        return put(b"the trace ends within it, after ")
-            && put_number(first.len() as u64)
-            && put(b" of its 95 bytes; give the whole trace, and nothing behind it");
+        let length = first.len();
+        return print!(rt;
+            "the trace ends within it, after {length} of its 95 bytes; give the whole trace, and nothing behind it"
+        );
     }
-    put(b"the mark 4B 56 does not stand at byte ")
-        && put_number(byte)
-        && put(b", where it begins; see whether each entry before it has 95 bytes")
+    print!(rt;
+        "the mark 4B 56 does not stand at byte {byte}, where it begins; see whether each entry before it has 95 bytes"
+    )
 }
 
 // Where the first flag stands that is neither 0 nor 1; where there is none, behind the flags.
 fn bad_flag(first: &[u8]) -> usize
     ensures { result ≡ bad_flag first.now }
 {
-    let mut at = entry::FLAGS;
-    while at < entry::MODE_AFTER {
+    for at in entry::FLAGS..entry::MODE_AFTER {
         if 1 < numbers::byte_at(first, at) {
             return at;
         }
-        at += 1;
     }
-    at
+    entry::MODE_AFTER
 }
 
-fn put_no_mode(mode: u32) -> bool {
-    put_number(mode as u64) && put(b", which is no mode; modes are 1 to 13")
+fn put_no_mode(rt: &impl Print, which: &str, mode: u32) -> Result<()> {
+    print!(rt; "its mode {which} is {mode}, which is no mode; modes are 1 to 13")
 }
 
 // What is out of range in an entry: the first that is.
-fn put_range(first: &[u8]) -> bool {
+fn put_range(rt: &impl Print, first: &[u8]) -> Result<()> {
     let before = entry::mode_before(first);
     if !names::is_mode(before) {
-        return put(b"its mode before is ") && put_no_mode(before);
+        return put_no_mode(rt, "before", before);
     }
     let at = bad_flag(first);
     if at == entry::MODE_AFTER {
-        return put(b"its mode after is ") && put_no_mode(entry::mode_after(first));
+        return put_no_mode(rt, "after", entry::mode_after(first));
     }
     let condition = at - entry::FLAGS + 1;
-    put(b"its flag of condition ")
-        && put_number(condition as u64)
-        && put(b" is ")
-        && put_number(numbers::byte_at(first, at) as u64)
-        && put(b"; a flag is 0 or 1")
+    let flag = numbers::byte_at(first, at);
+    print!(rt; "its flag of condition {condition} is {flag}; a flag is 0 or 1")
 }
 
 // Why an entry is refused, and what to look at.
-fn put_reason(file: File, first: &[u8]) -> bool
+fn put_reason(rt: &impl Print, file: File, first: &[u8]) -> Result<()>
     requires { file.entries ≤ most_entries }
 {
-    let judged = file.judged;
-    if judged.answer == entry::BAD_ENTRY {
-        return put_form(entry::BYTES as u64 * file.entries, first);
+    if file.judged.answer == entry::BAD_ENTRY {
+        return put_form(rt, entry::BYTES as u64 * file.entries, first);
     }
-    put_range(first)
+    put_range(rt, first)
 }
 
 // The answer; `first` is what was held last.
-fn put_answer(file: File, first: &[u8]) -> bool
+fn put_answer(rt: &impl Print, file: File, first: &[u8]) -> Result<()>
     requires { file.entries ≤ most_entries }
 {
-    let judged = file.judged;
     let line = answer::line(file, first);
     let bytes = line.bytes;
-    let is_put = put(&bytes[..numbers::at_most(line.len, ROOM)]);
-    if judged.answer == 0 {
-        return is_put;
+    rt.write_all(&bytes[..line.len.min(ROOM)])?;
+    if file.judged.answer == 0 {
+        return Ok(());
     }
-    is_put && put_reason(file, first) && put(b"\n")
-}
-
-fn say(text: &[u8]) {
-    io::write_all(STDERR_FILENO, text);
+    put_reason(rt, file, first)?;
+    println!(rt)
 }
 
 // Says what stopped the check, if anything did, and gives the outcome.
-fn outcome(file: File, told: bool) -> u64
+#[tactic(auto, unfolding(crate::specs::Outcome::outcome_of))]
+fn outcome(rt: &impl Eprint, file: File, told: bool) -> Outcome
     ensures { result ≡ outcome_of file told }
 {
-    let held = file.held;
-    let judged = file.judged;
-    if held.failed {
-        say(
-            b"bench: the trace cannot be read to its end; see whether it is a file, and its disk is sound\n",
+    if file.held.failed {
+        let _ = eprintln!(rt;
+            "bench: the trace cannot be read to its end; see whether it is a file, and its disk is sound"
         );
-        return NOT_DONE;
+        return Outcome::NotDone;
     }
     if !file.over {
-        say(
-            b"bench: 194,176,253,407,468,964 entries are right, the most at a time; check what stands behind them by itself\n",
+        let _ = eprintln!(rt;
+            "bench: 194,176,253,407,468,964 entries are right, the most at a time; check what stands behind them by itself"
         );
-        return NOT_DONE;
+        return Outcome::NotDone;
     }
     if !told {
-        say(
-            b"bench: the answer cannot be written; see whether there is room, and whether the output is still read\n",
+        let _ = eprintln!(rt;
+            "bench: the answer cannot be written; see whether there is room, and whether the output is still read"
         );
-        return NOT_DONE;
+        return Outcome::NotDone;
     }
-    if judged.is_right() {
-        return IS_RIGHT;
+    if file.judged.is_right() {
+        return Outcome::Right;
     }
-    IS_NOT_RIGHT
+    Outcome::NotRight
 }
 
 // Where the trace could not be checked to its answer, there is none.
-pub(crate) fn finish(file: File, first: &[u8])
+pub(crate) fn finish(rt: &(impl Print + Eprint), file: File, first: &[u8])
     requires { file.entries ≤ most_entries }
 {
-    let told = file.over && put_answer(file, first);
-    io::print_decimal(OUTCOME_FILENO, outcome(file, told));
+    let told = file.over && put_answer(rt, file, first).is_ok();
+    io::print_decimal(OUTCOME_FILENO, outcome(rt, file, told).digit());
 }

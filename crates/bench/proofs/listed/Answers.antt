@@ -6,9 +6,10 @@ use Rattle.bench.proofs.listed.Goals as goal
 
 pub returns : goal.returns
 returns g c =
-    let ended = c.with_end-pending in
+    let ended = c.with_end in
     let played = c.played-play in
-    let after = bytes played.new.session played.new.input played.new.output in record {
+    let after = bytes played.new.session played.new.input played.new.output in
+    record {
       play = played.result;
       after = after;
       played = played.ensures;

@@ -4,20 +4,21 @@ use Prim.Native.Nat.{ℕ}
 use native.Mathlib.Omega.{arith}
 use Rattle.holding.proofs.HeldLaws.{within_enough, read-ready, stays-ready}
 use Rattle.holding.proofs.ready.Goals as goal
+use Rattle.holding.proofs.ready.Goals.{then-held-via-then-held, then-held-via-else-held+then-longest-kept}
 
-pub returns-then-held : goal.returns-then-held
-returns-then-held g c =
+pub returns-then-held-clause-value : goal.returns-then-held-clause-value
+returns-then-held-clause-value g c =
     let a = c.args in
-    stays-ready a.longest a.buffer.now a.held (λ more. let z : ◌≡◌ {A = ℕ} 0 1 = cc c.if-held.true in absurd (omega arith))
+    let e = c.within-at.ensures in
+    elim c.then-held.branch [
+      | then-held-via-then-held w ↦ stays-ready a.longest a.buffer.now a.held
+          (λ more. let z : ◌≡◌ {A = ℕ} 0 1 = cc w.if-held.true in absurd (omega arith))
+      | then-held-via-else-held+then-longest-kept w ↦ stays-ready a.longest a.buffer.now a.held
+          (λ more. within_enough a.buffer.now a.held.at a.held.end _ _ a.longest e.end e.at w.if-longest-kept.true)
+    ]
 
-pub returns-then-longest-kept : goal.returns-then-longest-kept
-returns-then-longest-kept g c =
+pub returns-clause-value : goal.returns-clause-value
+returns-clause-value g c =
     let a = c.args in
-    stays-ready a.longest a.buffer.now a.held
-    (λ more. within_enough a.buffer.now a.held.at a.held.end _ _ a.longest c.at_most-end.ensures c.at_most-at.ensures c.if-longest-kept.true)
-
-pub returns : goal.returns
-returns g c =
-    let a = c.args in
-    read-ready a.longest a.buffer.now _ _ a.held c.read_on.result _ _ c.at_most-end.ensures c.at_most-at.ensures c.if-held.false
-    c.to_front.ensures c.read_on.ensures
+    let e = c.within-at.ensures in
+    read-ready a.longest a.buffer.now _ _ a.held c.read_on.result _ _ e.end e.at c.if-held.false c.copy_within.ensures.after c.read_on.ensures.value

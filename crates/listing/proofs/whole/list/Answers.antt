@@ -8,10 +8,9 @@ use Rattle.listing.proofs.whole.list.Goals as goal
 
 pub returns-then-output-length : goal.returns-then-output-length
 returns-then-output-length c =
-    let measured = c in
-    let a = measured.args in
-    let same = none_before measured.put_all-length.new.output a.output.now (search rules) in
-    let says = list-refused a.recording.now a.output.now measured.put_all-length.result measured.put_all-length.ensures.0 (omega (arith, ap length same, c.if-output-length.true)) in
+    let a = c.args in
+    let same = none_before c.put_all-length.new.output a.output.now (search rules) in
+    let says = list-refused a.recording.now a.output.now c.put_all-length.result c.put_all-length.ensures.0 (omega (arith, ap length same, c.if-output-length.true)) in
     record {
       value = says.0;
       output_after = same ∙ says.1;
@@ -19,13 +18,10 @@ returns-then-output-length c =
 
 pub returns : goal.returns
 returns c =
-    let put = c in
-    let tested = put in
-    let measured = tested in
-    let a = measured.args in
-    let same = none_before measured.put_all-length.new.output a.output.now (search rules) in
-    let both = list-accepted a.recording.now a.output.now measured.put_all-length.result measured.put_all-length.ensures.0 (omega (arith, ap length same, tested.if-output-length.false))
-    (rw same at put.put_all-written.ensures) in
+    let a = c.args in
+    let same = none_before c.put_all-length.new.output a.output.now (search rules) in
+    let both = list-accepted a.recording.now a.output.now c.put_all-length.result c.put_all-length.ensures.0 (omega (arith, ap length same, c.if-output-length.false))
+    (rw same at c.put_all.ensures) in
     record {
       value = both.0;
       output_after = both.1;

@@ -9,19 +9,16 @@ pub returns-then-is_right : goal.returns-then-is_right
 unfolding answer_text
 returns-then-is_right c = c.yes_line.ensures ∙ simp (sym c.is_right.ensures ∙ c.if-is_right.true)
 
-pub returns-then-judged-ne0 : goal.returns-then-judged-ne0
+pub returns-then-answer-ne0 : goal.returns-then-answer-ne0
 unfolding answer_text
-returns-then-judged-ne0 c =
-    let known = c in
+returns-then-answer-ne0 c =
     c.refused_line.ensures
-    ∙ simp (sym known.is_right.ensures ∙ known.if-is_right.false, ne_eqb _ _ c.if-judged-ne0.true)
+    ∙ simp (sym c.is_right.ensures ∙ c.if-is_right.false, ne_eqb _ _ c.if-answer-ne0.true)
 
 pub returns : goal.returns
 unfolding answer_text
 returns c =
-    let tested = c in
-    let known = tested in
-    let file = known.args.file in
+    let file = c.args.file in
     c.wrong_line.ensures
     ∙ ap (λ (m : ℕ). written (wrong_text (file.entries + 1) file.judged.wrong file.judged.due m)) c.found.ensures
-    ∙ simp (sym known.is_right.ensures ∙ known.if-is_right.false, eq-eqb _ _ tested.if-judged-ne0.false)
+    ∙ simp (sym c.is_right.ensures ∙ c.if-is_right.false, eq-eqb _ _ c.if-answer-ne0.false)

@@ -5,9 +5,4 @@ use Rattle.trace_files.proofs.answer.yes_line.Goals as goal
 
 pub returns : goal.returns
 unfolding words
-returns c =
-    let counted = c in
-    let said = counted in
-    let begun = said in
-    simp (c.with_words-2.ensures, counted.with_number.ensures, said.with_words.ensures, begun.empty.ensures)
-    (yes-written begun.args.entries)
+returns c = simp (c.with_words-2.ensures, c.with_number.ensures, c.with_words.ensures, c.empty.ensures) (yes-written c.args.entries)

@@ -1,5 +1,5 @@
--- `trace_files::telling::bad_flag` meets its contract, and ends: the flags left fall.
-use mathlib.Core.Path.{refl, ◌∙◌}
+-- `trace_files::telling::bad_flag` meets its contract: what is found from a flag on is what is found from the first.
+use mathlib.Core.Path.{◌≡◌, refl, ◌∙◌}
 use Prim.Native.Nat.{◌+◌, ◌-◌}
 use native.Mathlib.Omega.{arith}
 use Rattle.traces.specs.Entry.{mode_after_at}
@@ -9,29 +9,23 @@ use Rattle.trace_files.proofs.telling.bad_flag.Goals as goal
 
 pub loop-at-init : goal.loop-at-init
 unfolding bad_flag
-loop-at-init c = (refl, omega arith)
+loop-at-init c = refl
 
 pub returns-then-byte_at-gt1 : goal.returns-then-byte_at-gt1
 returns-then-byte_at-gt1 c =
-    let read = c in
-    let looped = read in
-    above_here looped.args.first.now looped.loop-at.at (mode_after_at - looped.loop-at.at) (omega (arith, read.loop-at-test.true))
-    (omega (arith, c.if-byte_at-gt1.true, read.byte_at.ensures))
-    ∙ looped.loop-at.invariant.0
+    let at = c.loop-at.at in
+    above_here c.args.first.now at (mode_after_at - at) (omega (arith, c.loop-at-test.true)) (omega (arith, c.if-byte_at-gt1.true, c.byte_at.ensures))
+    ∙ c.loop-at.invariant
 
 pub loop-at-preserved : goal.loop-at-preserved
 loop-at-preserved c =
-    let read = c in
-    let looped = read in
-    let at = looped.loop-at.at in (
-      above_next looped.args.first.now at (mode_after_at - at) (mode_after_at - (at + 1)) (omega (arith, read.loop-at-test.true))
-          (omega (arith, c.if-byte_at-gt1.false, read.byte_at.ensures))
-          ∙ looped.loop-at.invariant.0,
-      omega (arith, read.loop-at-test.true),
-    )
+    let at = c.loop-at.at in
+    above_next c.args.first.now at (mode_after_at - at) (mode_after_at - (at + 1)) (omega (arith, c.loop-at-test.true))
+    (omega (arith, c.if-byte_at-gt1.false, c.byte_at.ensures))
+    ∙ c.loop-at.invariant
 
 pub returns : goal.returns
 returns c =
-    let looped = c in
-    above_end looped.args.first.now looped.loop-at.at (mode_after_at - looped.loop-at.at) (omega (arith, c.loop-at-test.false))
-    ∙ looped.loop-at.invariant.0
+    let at = c.loop-at.at in
+    let end : mode_after_at ≡ at = omega (arith, c.loop-at-test.false, c.loop-at.auto.at-end (omega arith)) in
+    end ∙ above_end c.args.first.now at (mode_after_at - at) (omega arith) ∙ c.loop-at.invariant
