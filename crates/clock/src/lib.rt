@@ -9,6 +9,7 @@ const LAST_FRAME: u32 = 86_400;
 const OUT_OF_RANGE: u32 = 17;
 
 // The conditions are 1 where they hold; of condition 24 this is the part that looks at the frames.
+// The C interface needs the numbers: the header has this struct, with an answer and conditions that C reads.
 #[repr(C)]
 #[derive(Clone, Copy, Default)]
 pub struct FrameAge {
