@@ -4,15 +4,14 @@
 ghost use Rattle.std.specs.Prelude.{◌≡◌, false};
 ghost use Rattle.clock.specs.Age.{not_a_frame, refuses, difference, aged, frame_age};
 
-use numbers::one_if;
-
 const LAST_FRAME: u32 = 86_400;
 
 const OUT_OF_RANGE: u32 = 17;
 
 // The conditions are 1 where they hold; of condition 24 this is the part that looks at the frames.
+// The C interface needs the numbers: the header has this struct, with an answer and conditions that C reads.
 #[repr(C)]
-#[derive(Clone, Copy)]
+#[derive(Clone, Copy, Default)]
 pub struct FrameAge {
     pub answer: u32,
     pub age: u32,
@@ -24,10 +23,7 @@ pub struct FrameAge {
 fn is_no_frame(n: u32) -> bool
     ensures { result ≡ not_a_frame n }
 {
-    if n < 1 {
-        return true;
-    }
-    LAST_FRAME < n
+    n < 1 || LAST_FRAME < n
 }
 
 fn is_refused(station: u32, onboard: u32) -> bool
@@ -42,9 +38,10 @@ fn difference(station: u32, onboard: u32) -> u32
     ensures { result ≡ difference station onboard }
 {
     if station < onboard {
-        return station + LAST_FRAME - onboard;
+        station + LAST_FRAME - onboard
+    } else {
+        station - onboard
     }
-    station - onboard
 }
 
 // The answer for an age.
@@ -54,9 +51,9 @@ fn answer_for(age: u32) -> FrameAge
     FrameAge {
         answer: 0,
         age,
-        condition24: one_if(age <= 1),
-        condition26: one_if(14 < age),
-        condition27: one_if(age < 5),
+        condition24: u32::from(age <= 1),
+        condition26: u32::from(14 < age),
+        condition27: u32::from(age < 5),
     }
 }
 
@@ -67,10 +64,7 @@ pub fn frame_age(station: u32, onboard: u32) -> FrameAge
     if is_refused(station, onboard) {
         return FrameAge {
             answer: OUT_OF_RANGE,
-            age: 0,
-            condition24: 0,
-            condition26: 0,
-            condition27: 0,
+            ..FrameAge::default()
         };
     }
     answer_for(difference(station, onboard) / 2)

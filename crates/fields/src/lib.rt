@@ -16,12 +16,6 @@ const WIDEST_WIDE: usize = 57;
 
 const WINDOW_BITS: usize = 64;
 
-fn wide(x: u32) -> u64
-    ensures { result ≡ x }
-{
-    x as u64
-}
-
 // 2 to the power k.
 fn weight(k: usize) -> u64
     requires { k ≤ 63 }
@@ -34,7 +28,7 @@ fn weight(k: usize) -> u64
 pub fn read_wide(s: &[u8], at: usize, width: usize) -> u64
     ensures { result ≡ field s.now at (min width 57) }
 {
-    let w = numbers::at_most(width, WIDEST_WIDE);
+    let w = width.min(WIDEST_WIDE);
     if w == 0 {
         return 0;
     }
@@ -45,7 +39,7 @@ pub fn read_wide(s: &[u8], at: usize, width: usize) -> u64
 pub fn read_field(s: &[u8], at: usize, width: usize) -> u32
     ensures { result ≡ field s.now at (min width 32) }
 {
-    read_wide(s, at, numbers::at_most(width, WIDEST)) as u32
+    read_wide(s, at, width.min(WIDEST)) as u32
 }
 
 // The number x with the w digits above its m lowest made those of v; the others stay.
@@ -63,7 +57,7 @@ fn with_digits(x: u64, m: usize, w: usize, v: u64) -> u64
 pub fn write_wide(out: &mut [u8], at: usize, width: usize, value: u64)
     ensures { out.new ≡ put out.old at (min width 57) value }
 {
-    let w = numbers::at_most(width, WIDEST_WIDE);
+    let w = width.min(WIDEST_WIDE);
     if 0 < w {
         let x = windows::window(out, at / 8);
         let y = with_digits(x, WINDOW_BITS - at % 8 - w, w, value);
@@ -75,5 +69,5 @@ pub fn write_wide(out: &mut [u8], at: usize, width: usize, value: u64)
 pub fn write_field(out: &mut [u8], at: usize, width: usize, value: u32)
     ensures { out.new ≡ put out.old at (min width 32) value }
 {
-    write_wide(out, at, numbers::at_most(width, WIDEST), wide(value));
+    write_wide(out, at, width.min(WIDEST), u64::from(value));
 }

@@ -6,12 +6,10 @@ ghost use Rattle.fields.specs.FirstSet.{first_set};
 pub fn first_set(s: &[u8], at: usize, end: usize) -> usize
     ensures { result ≡ first_set s.now at (end - at) }
 {
-    let mut p = at;
-    while p < end {
+    for p in at..end {
         if crate::read_field(s, p, 1) == 1 {
             return p;
         }
-        p += 1;
     }
-    p
+    at.max(end)
 }

@@ -1,5 +1,5 @@
 -- Laws of a listing's lines: there is room for each, so each is what its parts make when written in turn.
-use mathlib.Core.List.{[]}
+use mathlib.Core.List.{[], ◌∷◌}
 use Prim.Native.Nat.{ℕ, ◌^◌, ◌≤◌, ◌<◌}
 use native.Mathlib.Omega.{arith}
 use lib.ListN.{length, length-append}
@@ -35,7 +35,7 @@ module _ (a b : ℕ) (ha : a < 2 ^ 64) (hb : b < 2 ^ 64) where
   end_fits = simp length-append (omega (arith, long a ha, long b hb))
 
   pub end-written : IsLineOf
-      (with_byte (with_text (with_text (with_byte (with_byte (with_byte (line_of []) 101) 110) 100) (next a)) (next b)) newline)
+      (with_byte (with_text (with_text (with_text (line_of []) (101 ∷ 110 ∷ 100 ∷ [])) (next a)) (next b)) newline)
       (end_line a b)
   unfolding end_line with_text
   end-written = (simp text-append at (written (end_line a b) end_fits), end_fits)

@@ -12,25 +12,20 @@ pub use line::{Line, ROOM};
 pub fn run_line() -> Line
     ensures { IsLineOf result run_line }
 {
-    Line::empty()
-        .with_byte(b'r')
-        .with_byte(b'u')
-        .with_byte(b'n')
-        .with_byte(line::NEWLINE)
+    Line::empty().with_words(b"run\n")
 }
 
 // The line of a record.
 pub fn record_line(number: u64, kind: u32, answer: u32, first: u32, second: u32, third: u32) -> Line
     ensures { IsLineOf result (record_line number kind answer first second third) }
 {
-    let ruled = Line::empty()
+    Line::empty()
         .with_number(number)
-        .with_next(kind as u64)
-        .with_next(answer as u64);
-    ruled
-        .with_next(first as u64)
-        .with_next(second as u64)
-        .with_next(third as u64)
+        .with_next(u64::from(kind))
+        .with_next(u64::from(answer))
+        .with_next(u64::from(first))
+        .with_next(u64::from(second))
+        .with_next(u64::from(third))
         .with_byte(line::NEWLINE)
 }
 
@@ -38,11 +33,9 @@ pub fn record_line(number: u64, kind: u32, answer: u32, first: u32, second: u32,
 pub fn end_line(lines: u64, accepted: u64) -> Line
     ensures { IsLineOf result (end_line lines accepted) }
 {
-    let word = Line::empty()
-        .with_byte(b'e')
-        .with_byte(b'n')
-        .with_byte(b'd');
-    word.with_next(lines)
+    Line::empty()
+        .with_words(b"end")
+        .with_next(lines)
         .with_next(accepted)
         .with_byte(line::NEWLINE)
 }

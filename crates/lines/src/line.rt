@@ -12,6 +12,7 @@ const SPACE: u8 = b' ';
 pub(crate) const NEWLINE: u8 = b'\n';
 
 // The first `len` bytes are the line, its newline with it; those behind are 0.
+// An array with its length, and no vector of fixed capacity: `line_of`, which callers' contracts cite, says of the bytes behind that they are 0.
 #[derive(Clone, Copy)]
 pub struct Line {
     pub bytes: [u8; ROOM],
@@ -32,10 +33,9 @@ impl Line {
     pub(crate) fn with_byte(mut self, b: u8) -> Line
         ensures { result ≡ with_byte self b }
     {
-        let at = self.len;
-        if at < ROOM {
-            self.bytes[at] = b;
-            self.len = at + 1;
+        if self.len < ROOM {
+            self.bytes[self.len] = b;
+            self.len += 1;
         }
         self
     }
@@ -45,10 +45,8 @@ impl Line {
         ensures { result ≡ with_text self words.now }
     {
         let mut line = self;
-        let mut i: usize = 0;
-        while i < words.len() {
-            line = line.with_byte(words[i]);
-            i += 1;
+        for b in words {
+            line = line.with_byte(*b);
         }
         line
     }

@@ -1,20 +1,23 @@
 -- Laws of copies: a run of bytes stored one after the other.
 use Prim.Native.Nat.{ℕ, zero, suc, ◌+◌, ◌≤◌, ◌<◌}
-use mathlib.Core.List.{List, [], ◌∷◌}
+use mathlib.Core.List.{List, [], ◌∷◌, ◌++◌, append_assoc}
 use mathlib.Core.Logic.{⊎_elim, ◌⊎◌, inl, inr}
 use mathlib.Core.Path.{◌≡◌, refl, sym, ap, ◌∙◌}
 use native.Mathlib.Omega.{arith}
-use lib.ListN.{length, get_or, set, take, length-set}
-use lib.Seq.{sets, set_out, get_or-set_same, get_or-set_other, take_all, take-suc, length-take-le}
-use Rattle.numbers.proofs.PieceLaws.{sets-append}
+use lib.ListN.{length, get_or, set, take, drop, length-set}
+use lib.Seq.{sets, sets-eq, set_out, get_or-set_same, get_or-set_other, take_all}
+use borrow.Rule.Slice.PartMut.{put_mid}
+use Rattle.std.proofs.lemmas.Slice.{put_mid-paste}
+use Rattle.std.proofs.lemmas.List.Edits.{paste_all}
 
--- one byte more
-pub copy-suc : (l v : List ℕ) (at i : ℕ) → i < length v → set (sets l at (take i v)) (at + i) (get_or v i 0) ≡ sets l at (take (suc i) v)
-copy-suc l v at i h =
-    sym
-    (ap (sets l at) (take-suc v i 0 h)
-    ∙ sets-append l at (take i v) (get_or v i 0 ∷ [])
-    ∙ ap (λ (n : ℕ). set (sets l at (take i v)) (at + n) (get_or v i 0)) (length-take-le i v (omega arith)))
+-- a part of a list that is overwritten is a run of stores
+pub sets_part : (l vs ws : List ℕ) (i k : ℕ) → vs ≡ ws → k ≡ length ws → i + k ≤ length l → put_mid i k l vs ≡ sets l i ws
+sets_part l vs ws i k e n h =
+    put_mid-paste i k l vs ws k e refl n
+    ∙ paste_all l i ws k n
+    ∙ ap (λ (m : ℕ). take i l ++ (ws ++ drop (i + m) l)) n
+    ∙ sym (append_assoc (take i l) ws (drop (i + length ws) l))
+    ∙ sym (sets-eq ws l i (omega arith))
 
 -- what is stored past the end is dropped
 pub sets_past : (l vs : List ℕ) (i : ℕ) → length l ≤ i → sets l i vs ≡ l

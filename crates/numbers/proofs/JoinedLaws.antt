@@ -53,7 +53,7 @@ bit_put_same s t p w v q n e =
     outside o = bit_put_out s p w v q o ∙ e o ∙ sym (bit_put_out t p w v q o)
 
 -- so the order in which a field and one behind it are put does not matter
-put-apart : (s : List ℕ) (p w v q u x : ℕ) → Bytes s → p + w ≤ q → put (put s p w v) q u x ≡ put (put s q u x) p w v
+pub put-apart : (s : List ℕ) (p w v q u x : ℕ) → Bytes s → p + w ≤ q → put (put s p w v) q u x ≡ put (put s q u x) p w v
 put-apart s p w v q u x hs apart =
     same_bits (put a q u x) (put b p w v) (bytes-put a q u x (bytes-put s p w v hs)) (bytes-put b p w v (bytes-put s q u x hs))
     (length-put a q u x ∙ la ∙ sym lb ∙ sym (length-put b p w v)) bit

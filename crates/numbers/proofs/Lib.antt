@@ -6,3 +6,4 @@ pub mod NumberLaws
 pub mod CopyLaws
 pub mod JoinedLaws
 pub mod FrontLaws
+pub mod BytesLaws

@@ -1,12 +1,12 @@
 -- Laws of byte-aligned numbers, each for any number of bytes.
 use mathlib.Core.Path.{◌≡◌, ap, ap₂, ◌∙◌}
 use mathlib.Core.List.{List}
-use Prim.Native.Nat.{ℕ, ◌+◌, ◌*◌, ◌/◌, ◌%◌, ◌^◌, ◌≤◌, ◌<◌}
+use Prim.Native.Nat.{ℕ, ◌+◌, ◌*◌, ◌/◌, ◌^◌, ◌≤◌, ◌<◌}
 use native.Mathlib.Omega.{arith}
-use lib.ListN.{length, get_or, set}
+use lib.ListN.{length, get_or}
 use Rattle.numbers.specs.Fields.{field, put}
 use Rattle.numbers.specs.Numbers.{number_at, put_number}
-use Rattle.numbers.proofs.FieldLaws.{field-add, field_lt, field-byte, field_past, put-add, put_byte, put_past, length-put, Bytes, bytes-put}
+use Rattle.numbers.proofs.FieldLaws.{field-add, field_lt, field-byte, field_past, put-add, put_past, Bytes}
 
 -- a number is its first bytes and the number behind them
 pub number_split : (s : List ℕ) (i a b : ℕ) → number_at (a + b) s i ≡ number_at a s i * 2 ^ (8 * b) + number_at b s (i + a)
@@ -31,14 +31,6 @@ number-byte s i h = field-byte s i h
 pub number_pair : (s : List ℕ) (i : ℕ) → Bytes s → number_at 2 s i ≡ get_or s i 0 * 256 + get_or s (i + 1) 0
 number_pair s i h =
     number_split s i 1 1 ∙ ap₂ (λ (x y : ℕ). x * 256 + y) (number-byte s i (h i)) (number-byte s (i + 1) (h (i + 1)))
-
--- and is put as the second and then the first
-pub pair_put : (s : List ℕ) (i x : ℕ) → Bytes s → i + 2 ≤ length s → put_number 2 s i x ≡ set (set s (i + 1) (x % 256)) i (x / 256 % 256)
-pair_put s i x hs h =
-    let t : List ℕ = put_number 1 s (i + 1) x in
-    let lt : length t ≡ length s = length-put s (8 * (i + 1)) 8 x in
-    number_put s i 1 1 x ∙ put_byte t i (x / 256) (bytes-put s (8 * (i + 1)) 8 x hs) (omega arith)
-    ∙ ap (λ (l : List ℕ). set l i (x / 256 % 256)) (put_byte s (i + 1) x hs (omega arith))
 
 -- past the end a number reads as 0, and putting one there does nothing
 pub number_past : (n : ℕ) (s : List ℕ) (i : ℕ) → length s ≤ i → number_at n s i ≡ 0

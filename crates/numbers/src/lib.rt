@@ -3,137 +3,129 @@
 // on numbers that several crates need.
 #![tactic(auto)]
 
-ghost use Rattle.std.specs.Prelude.{◌≡◌, ◌+◌, ◌%◌, ◌≤◌, min, length, take, drop};
+ghost use Rattle.std.specs.Prelude.{ℕ, ◌≡◌, ◌+◌, ◌<◌, MatchOption, length, min, slice_index, take, drop};
 ghost use Rattle.std.proofs.lemmas.List.Edits.{sets};
 ghost use Rattle.numbers.specs.Numbers.{number_at, put_number, one_if};
 
-fn wide(x: u8) -> u32
-    ensures { result ≡ x }
+// The N bytes from byte i on, where all are there.
+fn whole_at<const N: usize>(s: &[u8], i: usize) -> Option<&[u8; N]>
+    ensures { MatchOption result (length s.now < i + N) (λ b. (k : ℕ) → k < N → slice_index b.now k ≡ slice_index s.now (i + k)) }
 {
-    x as u32
+    if i <= s.len() {
+        s[i..].first_chunk()
+    } else {
+        None
+    }
+}
+
+// The 8 bytes from byte i on.
+fn eight_at(s: &[u8], i: usize) -> [u8; 8]
+    ensures { (k : ℕ) → k < 8 → slice_index result k ≡ slice_index s.now (i + k) }
+{
+    let mut bytes = [0; 8];
+    if i < s.len() {
+        let there = (s.len() - i).min(8);
+        bytes[..there].copy_from_slice(&s[i..i + there]);
+    }
+    bytes
+}
+
+// The 8 bytes from byte i on as a number, for a place near the end: a number of fewer bytes is what stands above some of its digits. It hands out
+// a number and no bytes, so that where all are there none are put on the stack.
+#[cold]
+#[inline(never)]
+pub fn end_at(s: &[u8], i: usize) -> u64
+    ensures { result ≡ number_at 8 s.now i }
+{
+    u64::from_be_bytes(eight_at(s, i))
 }
 
 pub fn byte_at(s: &[u8], i: usize) -> u32
     ensures { result ≡ number_at 1 s.now i }
 {
-    if i < s.len() { wide(s[i]) } else { 0 }
-}
-
-// Two bytes that are both there.
-fn pair_at(s: &[u8], i: usize) -> u32
-    requires { i + 2 ≤ length s.now }
-    ensures { result ≡ number_at 2 s.now i }
-{
-    let high = wide(s[i]);
-    let low = wide(s[i + 1]);
-    high * 256 + low
+    if i < s.len() { u32::from(s[i]) } else { 0 }
 }
 
 pub fn half_at(s: &[u8], i: usize) -> u32
     ensures { result ≡ number_at 2 s.now i }
 {
-    if i < s.len() {
-        let high = byte_at(s, i);
-        let low = byte_at(s, i + 1);
-        high * 256 + low
-    } else {
-        0
+    match whole_at(s, i) {
+        Some(bytes) => u32::from(u16::from_be_bytes(*bytes)),
+        None => (end_at(s, i) >> 48) as u32,
     }
 }
 
-// One test where all four bytes are there. Where some are not, the halves are read, the low one first: then the two ways have no read in
-// common that could be made before the test, and the four bytes are read as one word.
 pub fn word_at(s: &[u8], i: usize) -> u32
     ensures { result ≡ number_at 4 s.now i }
 {
-    let n = s.len();
-    if n >= 4 {
-        if i <= n - 4 {
-            return pair_at(s, i) * 65536 + pair_at(s, i + 2);
-        }
+    match whole_at(s, i) {
+        Some(bytes) => u32::from_be_bytes(*bytes),
+        None => (end_at(s, i) >> 32) as u32,
     }
-    if i >= n {
-        return 0;
-    }
-    let low = half_at(s, i + 2);
-    half_at(s, i) * 65536 + low
 }
 
-fn low_byte(x: u32) -> u8
-    ensures { result ≡ x % 256 }
+// Puts these bytes from byte i on.
+pub fn put_bytes<const N: usize>(out: &mut [u8], i: usize, bytes: [u8; N])
+    ensures { out.new ≡ sets out.old i bytes.entry }
 {
-    (x % 256) as u8
+    if i < out.len() && N <= out.len() - i {
+        out[i..i + N].copy_from_slice(&bytes);
+    } else {
+        put_end(out, i, bytes);
+    }
+}
+
+// The same, for a place near the end.
+#[cold]
+#[inline(never)]
+fn put_end<const N: usize>(out: &mut [u8], i: usize, bytes: [u8; N])
+    ensures { out.new ≡ sets out.old i bytes.entry }
+{
+    copy(&bytes, 0, N, out, i);
 }
 
 pub fn put_byte(out: &mut [u8], i: usize, x: u32)
     ensures { out.new ≡ put_number 1 out.old i x }
 {
     if i < out.len() {
-        out[i] = low_byte(x);
+        let [.., low] = x.to_be_bytes();
+        out[i] = low;
     }
-}
-
-// Two bytes that are both there.
-fn put_pair(out: &mut [u8], i: usize, x: u32)
-    requires { i + 2 ≤ length out.old }
-    ensures { out.new ≡ put_number 2 out.old i x }
-{
-    out[i + 1] = low_byte(x);
-    out[i] = low_byte(x / 256);
 }
 
 pub fn put_half(out: &mut [u8], i: usize, x: u32)
     ensures { out.new ≡ put_number 2 out.old i x }
 {
-    if i < out.len() {
-        put_byte(out, i + 1, x);
-        put_byte(out, i, x / 256);
-    }
+    let [.., high, low] = x.to_be_bytes();
+    put_bytes(out, i, [high, low]);
 }
 
 pub fn put_word(out: &mut [u8], i: usize, x: u32)
     ensures { out.new ≡ put_number 4 out.old i x }
 {
-    let n = out.len();
-    if n >= 4 {
-        if i <= n - 4 {
-            put_pair(out, i + 2, x);
-            put_pair(out, i, x / 65536);
-            return;
-        }
-    }
-    if i < n {
-        put_half(out, i + 2, x);
-        put_half(out, i, x / 65536);
-    }
+    put_bytes(out, i, x.to_be_bytes());
 }
 
 // A test as a number: 1 where it holds, 0 where it does not.
 pub fn one_if(holds: bool) -> u32
     ensures { result ≡ one_if holds }
 {
-    if holds { 1 } else { 0 }
+    u32::from(holds)
 }
 
 // The lower of two numbers.
 pub fn at_most(n: usize, most: usize) -> usize
     ensures { result ≡ min n most }
 {
-    if n < most { n } else { most }
+    n.min(most)
 }
 
 // n bytes from one offset on, put from another on in other bytes. Of those past an end none is read, and none is put.
 pub fn copy(from: &[u8], start: usize, n: usize, to: &mut [u8], at: usize)
     ensures { to.new ≡ sets to.old at (take n (drop start from.now)) }
 {
-    if start < from.len() {
-        if at < to.len() {
-            let most = at_most(at_most(n, from.len() - start), to.len() - at);
-            let mut i: usize = 0;
-            while i < most {
-                to[at + i] = from[start + i];
-                i += 1;
-            }
-        }
+    if start < from.len() && at < to.len() {
+        let most = n.min(from.len() - start).min(to.len() - at);
+        to[at..at + most].copy_from_slice(&from[start..start + most]);
     }
 }

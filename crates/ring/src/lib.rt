@@ -26,5 +26,5 @@ pub fn notch_before(notch: usize) -> usize
 pub fn kept_after(kept: usize) -> usize
     ensures { result ≡ min depth (suc kept) }
 {
-    if kept < DEPTH { kept + 1 } else { DEPTH }
+    kept.min(DEPTH - 1) + 1
 }

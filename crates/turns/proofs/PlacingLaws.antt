@@ -2,23 +2,13 @@
 use mathlib.Core.Path.{◌≡◌, sym, ap, ap₂, ◌∙◌}
 use mathlib.Core.List.{List, [], ◌++◌, append_assoc, append-nil}
 use Prim.Native.Nat.{ℕ, ◌+◌, ◌-◌, ◌≤◌, ◌<◌}
-use native.Mathlib.Decide.{dec_lt}
 use native.Mathlib.Omega.{arith}
 use borrow.Author.Tests.{le-leb, lt-leb}
-use lib.Dec.{leb}
 use lib.ListN.{length, take, drop, replicate, length-append, length-drop, take-append-drop}
 use lib.Seq.{sets, sets-eq, take-append_seam, take_at, drop_at, drop-drop, length-take-le}
 use Rattle.lines.specs.Line.{room, line_of, IsLineOf}
 use Rattle.lines.specs.declared.line.Line.{Line}
 use Rattle.turns.specs.Placing.{put_at}
-
--- n bytes from an offset on end where n less are left of the offset
-pub fits-behind : (at n size : ℕ) → n ≤ size → leb at (size - n) ≡ leb (at + n) size
-fits-behind at n size h = of (dec_lt size (at + n))
-  where
-    of : Dec (size < at + n) → leb at (size - n) ≡ leb (at + n) size
-    of (yes l) = lt-leb at (size - n) (omega arith) ∙ sym (lt-leb (at + n) size l)
-    of (no l) = le-leb at (size - n) (omega arith) ∙ sym (le-leb (at + n) size (omega arith))
 
 module _ (output : List ℕ) (at : ℕ) (text : List ℕ) where
   -- where it fits, it stands there

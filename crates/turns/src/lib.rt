@@ -33,7 +33,7 @@ fn line_of(ran: Ran) -> Line
 fn accepted_by(ran: Ran) -> u64
     ensures { result ≡ one_if_accepted ran }
 {
-    if ran.answer == 0 { 1 } else { 0 }
+    u64::from(ran.answer == 0)
 }
 
 // The first line.

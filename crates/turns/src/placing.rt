@@ -15,10 +15,8 @@ fn fits(at: usize, n: usize, size: usize) -> bool
 pub(crate) fn put(output: &mut [u8], at: usize, line: Line) -> usize
     ensures { IsPut line output.old at output.new result }
 {
-    let n = line.len;
-    let bytes = line.bytes;
-    if fits(at, n, output.len()) {
-        numbers::copy(&bytes, 0, n, output, at);
+    if fits(at, line.len, output.len()) {
+        numbers::copy(&line.bytes, 0, line.len, output, at);
     }
-    n
+    line.len
 }

@@ -13,5 +13,5 @@ overflow_sub-result c = let h = both_frames _ _ c.requires in omega (arith, h.0.
 pub returns-then-station-onboard : goal.returns-then-station-onboard
 returns-then-station-onboard c = over_midnight _ _ c.requires c.if-station-onboard.true
 
-pub returns : goal.returns
-returns c = plain _ _ c.requires (omega (arith, c.if-station-onboard.false))
+pub returns-else-station-onboard : goal.returns-else-station-onboard
+returns-else-station-onboard c = plain _ _ c.requires (omega (arith, c.if-station-onboard.false))

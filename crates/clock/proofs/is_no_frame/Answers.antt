@@ -7,6 +7,6 @@ pub returns-then-n-lt1 : goal.returns-then-n-lt1
 unfolding not_a_frame
 returns-then-n-lt1 c = simp (lt-ltb _ _ c.if-n-lt1.true)
 
-pub returns : goal.returns
+pub returns-else-n-lt1 : goal.returns-else-n-lt1
 unfolding not_a_frame
-returns c = simp (le-ltb _ _ c.if-n-lt1.false)
+returns-else-n-lt1 c = simp (le-ltb _ _ c.if-n-lt1.false)

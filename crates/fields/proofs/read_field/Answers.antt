@@ -10,7 +10,7 @@ use Rattle.fields.proofs.read_field.Goals as goal
 
 pub returns : goal.returns
 returns c = let a = c.args in
-    let e : min c.at_most.result 57 ≡ min a.width 32 = omega arith in
+    let e : min c.min.result 57 ≡ min a.width 32 = omega arith in
     c.read_wide.ensures ∙ ap (field a.s.now a.at) e
 
 pub overflow_cast-result : goal.overflow_cast-result

@@ -24,11 +24,11 @@ returns-then-w-eq0 c = let a = c.args in
     sym (field-zero a.s.now a.at) ∙ ap (field a.s.now a.at) e
 
 pub nonzero_rem-result-2 : goal.nonzero_rem-result-2
-nonzero_rem-result-2 c = omega (arith, pow_pos c.at_most-w.result)
+nonzero_rem-result-2 c = omega (arith, pow_pos c.min-w.result)
 
 pub returns : goal.returns
 returns c = let a = c.args in
-    let w = c.at_most-w in
+    let w = c.min-w in
     ap₂ (λ (x y : ℕ). x / 2 ^ (64 - a.at % 8 - w.result) % y) c.window.ensures c.weight.ensures
     ∙ shifted a.s.now a.at w.result (omega arith)
     ∙ ap (field a.s.now a.at) w.ensures

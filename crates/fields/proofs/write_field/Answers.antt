@@ -6,7 +6,6 @@ use Rattle.numbers.specs.Fields.{put}
 use Rattle.fields.proofs.write_field.Goals as goal
 
 pub returns : goal.returns
-returns c = let d = c in
-    let a = d.args in
-    let e : min d.at_most.result 57 ≡ min a.width 32 = omega arith in
-    d.write_wide.ensures ∙ ap₂ (put a.out.now a.at) e d.wide.ensures
+returns c = let a = c.args in
+    let e : min c.min.result 57 ≡ min a.width 32 = omega arith in
+    c.write_wide.ensures ∙ ap₂ (put a.out.now a.at) e c.from.ensures

@@ -21,15 +21,12 @@ within s at w v hs h =
 
 pub returns-then-w-gt0 : goal.returns-then-w-gt0
 unfolding with_digits
-returns-then-w-gt0 c = let d = c in
-    let called = d in
-    let known = called in
-    let a = known.args in
-    let w = called.at_most-w in
+returns-then-w-gt0 c = let a = c.args in
+    let w = c.min-w in
     let m : ℕ = 64 - a.at % 8 - w.result in
-    d.put_window.ensures
-    ∙ ap (put_number 8 a.out.now (a.at / 8)) (d.with_digits-y.ensures ∙ ap (λ (x : ℕ). with_digits x m w.result a.value) called.window-x.ensures)
-    ∙ within a.out.now a.at w.result a.value (λ k. (known.slice_known-1.given k).fits) (omega arith)
+    c.put_window.ensures
+    ∙ ap (put_number 8 a.out.now (a.at / 8)) (c.with_digits-y.ensures ∙ ap (λ (x : ℕ). with_digits x m w.result a.value) c.window-x.ensures)
+    ∙ within a.out.now a.at w.result a.value (λ k. grind arith) (omega arith)
     ∙ ap (λ (n : ℕ). put a.out.now a.at n a.value) w.ensures
 
 pub returns-else-w-gt0 : goal.returns-else-w-gt0

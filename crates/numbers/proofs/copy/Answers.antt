@@ -1,71 +1,41 @@
--- `numbers::copy` meets its contract. The invariant: the first i bytes are copied.
-use Prim.Native.Nat.{ℕ, ◌+◌, ◌-◌, ◌<◌, min}
+-- `numbers::copy` meets its contract: as many bytes as there are and have room are stored, in one go.
+use Prim.Native.Nat.{ℕ, ◌-◌, min}
 use mathlib.Core.List.{List}
 use mathlib.Core.Logic.{⊎_elim, inl, inr}
-use mathlib.Core.Path.{◌≡◌, refl, sym, ap, ◌∙◌}
-use native.Mathlib.Numerals.{add-one}
+use mathlib.Core.Path.{◌≡◌, sym, ap, ◌∙◌}
 use native.Mathlib.Omega.{arith}
-use lib.ListN.{length, get_or, set, take, drop, length-take, length-drop}
-use lib.Seq.{sets, length-sets, get_or-take, get_or-drop}
-use Rattle.numbers.proofs.CopyLaws.{copy-suc, sets_most}
+use lib.ListN.{length, take, drop, length-take, length-drop}
+use lib.Seq.{sets}
+use Rattle.std.proofs.lemmas.List.{take-take}
+use Rattle.numbers.proofs.CopyLaws.{sets_part, sets_most}
 use Rattle.numbers.proofs.Logic.{lt_or_le}
-use borrow.Author.Rules.{rules}
 use Rattle.numbers.proofs.copy.Goals as goal
+use Rattle.numbers.proofs.copy.Goals.{else-start-from-via-then-start-from+else-at-to, else-start-from-via-else-start-from}
 
--- the bytes that are to be copied
-length_part : (from : List ℕ) (start n : ℕ) → length (take n (drop start from)) ≡ min n (length from - start)
-length_part from start n = length-take n (drop start from) ∙ ap (min n) (length-drop start from)
+-- of plain numbers: the bytes that are stored are the first m of those that are to be copied, and there are no more, or no more have room
+copied : (to from : List ℕ) (start n at m k : ℕ) → k ≡ m → m ≡ min (min n (length from - start)) (length to - at)
+    → sets to at (take k (drop start from)) ≡ sets to at (take n (drop start from))
+copied to from start n at m k e f =
+    let v : List ℕ = take n (drop start from) in
+    let part : length v ≡ min n (length from - start) = length-take n (drop start from) ∙ ap (min n) (length-drop start from) in
+    ap (λ (j : ℕ). sets to at (take j (drop start from))) e
+    ∙ ap (sets to at) (sym (take-take m n (drop start from) (omega arith)))
+    ∙ sets_most to v at m (⊎_elim (λ l. inr (omega arith)) (λ l. inl (omega arith)) (lt_or_le (length to - at) (length v)))
 
-pub loop-i-init : goal.loop-i-init
-loop-i-init c = (search rules, refl)
-
-pub bounds-from-start : goal.bounds-from-start
-bounds-from-start c = omega arith
-
-pub bounds-to-at : goal.bounds-to-at
-bounds-to-at c =
+pub returns-then-at-to : goal.returns-then-at-to
+returns-then-at-to c =
     let a = c.args in
-    let l = c.loop-i in
-    omega (arith, ap length l.invariant.1 ∙ length-sets a.to.now a.at (take l.i (take a.n (drop a.start a.from.now))))
-
-pub loop-i-preserved : goal.loop-i-preserved
-loop-i-preserved c =
-    let a = c.args in
-    let l = c.loop-i in
-    let v : List ℕ = take a.n (drop a.start a.from.now) in
-    let part : length v ≡ min a.n (length a.from.now - a.start) = length_part a.from.now a.start a.n in
-    let inside : l.i < length v = omega arith in
-    let byte : get_or v l.i 0 ≡ get_or a.from.now (a.start + l.i) 0 =
-    get_or-take a.n (drop a.start a.from.now) l.i 0 (omega arith) ∙ get_or-drop a.start a.from.now l.i 0 in (
-      search rules,
-      (λ k. set (l.invariant.1 k) (a.at + l.i) (sym byte k))
-          ∙ copy-suc a.to.now v a.at l.i inside
-          ∙ ap (λ (m : ℕ). sets a.to.now a.at (take m v)) (sym (add-one l.i)),
-    )
-
-pub shape_of-to : goal.shape_of-to
-shape_of-to c =
-    let a = c.args in
-    let l = c.loop-i in
-    ap length l.invariant.1 ∙ length-sets a.to.now a.at (take l.i (take a.n (drop a.start a.from.now)))
-
-pub returns-after-loop-i : goal.returns-after-loop-i
-returns-after-loop-i c =
-    let a = c.args in
-    let l = c.loop-i in
-    let v : List ℕ = take a.n (drop a.start a.from.now) in
-    let part : length v ≡ min a.n (length a.from.now - a.start) = length_part a.from.now a.start a.n in
-    l.invariant.1
-    ∙ sets_most a.to.now v a.at l.i
-    (⊎_elim (λ m. inr (omega arith)) (λ m. inl (omega arith)) (lt_or_le (length a.to.now - a.at) (length v)))
-
-pub returns-else-at-to : goal.returns-else-at-to
-returns-else-at-to c =
-    let a = c.args in
-    sets_most a.to.now (take a.n (drop a.start a.from.now)) a.at 0 (inr (omega arith))
+    let p = c.copy_from_slice.ensures in
+    let most : c.min-most.result ≡ min (min a.n (length a.from.now - a.start)) (length a.to.now - a.at) =
+    c.min-most.ensures ∙ ap (λ (j : ℕ). min j (length a.to.now - a.at)) c.min.ensures in
+    sets_part a.to.now _ _ a.at _ p.after (omega (arith, length-take {A = ℕ}, length-drop {A = ℕ})) (omega arith)
+    ∙ copied a.to.now a.from.now a.start a.n a.at c.min-most.result _ (omega arith) most
 
 pub returns-else-start-from : goal.returns-else-start-from
 returns-else-start-from c =
     let a = c.args in
-    sets_most a.to.now (take a.n (drop a.start a.from.now)) a.at 0
-    (inl (omega (arith, length_part a.from.now a.start a.n)))
+    let v : List ℕ = take a.n (drop a.start a.from.now) in
+    elim c.else-start-from.branch [
+      | else-start-from-via-then-start-from+else-at-to w ↦ sets_most a.to.now v a.at 0 (inr (omega arith))
+      | else-start-from-via-else-start-from w ↦ sets_most a.to.now v a.at 0 (inl (omega (arith, length-take {A = ℕ}, length-drop {A = ℕ})))
+    ]

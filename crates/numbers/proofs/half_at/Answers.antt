@@ -1,21 +1,13 @@
--- `numbers::half_at` meets its contract: two numbers side by side.
-use Prim.Native.Nat.{ℕ, ◌+◌, ◌*◌}
-use mathlib.Core.Path.{sym, ap₂, ◌∙◌}
-use native.Mathlib.Omega.{arith}
-use Rattle.numbers.proofs.NumberLaws.{number_split, number_past, number_lt}
+-- `numbers::half_at` meets its contract: its bytes are all there, or it is what stands above the other digits of eight.
+use Prim.Native.Nat.{ℕ, ◌/◌, ◌^◌}
+use mathlib.Core.Path.{ap, ◌∙◌}
+use Rattle.numbers.proofs.BytesLaws.{number_of_2, number_high}
 use Rattle.numbers.proofs.half_at.Goals as goal
 
-pub overflow_mul-result : goal.overflow_mul-result
-overflow_mul-result c = let a = c.args in
-    omega (arith, number_lt 1 a.s.now a.i, number_lt 1 a.s.now (a.i + 1))
+pub returns-in-Some : goal.returns-in-Some
+returns-in-Some c =
+    let a = c.args in
+    c.from.ensures ∙ c.from_be_bytes.ensures ∙ number_of_2 a.s.now c.in-Some.bytes.now a.i (λ k. (c.type_inv.s k).fits) c.in-Some.ensures
 
-pub overflow_add-result : goal.overflow_add-result
-overflow_add-result c = let a = c.args in
-    omega (arith, number_lt 1 a.s.now a.i, number_lt 1 a.s.now (a.i + 1))
-
-pub returns-then-i-s : goal.returns-then-i-s
-returns-then-i-s c = let a = c.args in
-    ap₂ (λ (x y : ℕ). x * 256 + y) c.byte_at-high.ensures c.byte_at-low.ensures ∙ sym (number_split a.s.now a.i 1 1)
-
-pub returns-else-i-s : goal.returns-else-i-s
-returns-else-i-s c = sym (number_past 2 _ _ c.if-i-s.false)
+pub returns-in-None : goal.returns-in-None
+returns-in-None c = ap (λ (x : ℕ). x / 2 ^ 48) c.end_at.ensures ∙ number_high c.args.s.now c.args.i 2 6

@@ -1,16 +1,14 @@
--- `numbers::put_half` meets its contract: two numbers side by side.
-use Prim.Native.Nat.{ℕ, ◌/◌}
-use mathlib.Core.Path.{sym, ap, ◌∙◌}
+-- `numbers::put_half` meets its contract.
+use mathlib.Core.Path.{ap, ◌∙◌}
+use Prim.Native.Nat.{ℕ, suc}
 use mathlib.Core.List.{List}
-use Rattle.numbers.specs.Numbers.{put_number}
-use Rattle.numbers.proofs.NumberLaws.{number_put, number_put_past}
+use lib.ListN.{get_or, set}
+use native.Mathlib.Omega.{arith}
+use Rattle.numbers.proofs.BytesLaws.{stored}
 use Rattle.numbers.proofs.put_half.Goals as goal
 
-pub returns-then-i-out : goal.returns-then-i-out
-returns-then-i-out c = let d = c in
-    let a = d.args in
-    c.put_byte-then-i-out.ensures ∙ ap (λ (l : List ℕ). put_number 1 l a.i (a.x / 256)) d.put_byte.ensures
-    ∙ sym (number_put a.out.now a.i 1 1 a.x)
-
-pub returns-else-i-out : goal.returns-else-i-out
-returns-else-i-out c = sym (number_put_past 2 _ _ _ c.if-i-out.false)
+pub returns : goal.returns
+returns c =
+    let a = c.args in
+    c.put_bytes.ensures ∙ ap (λ (bs : List ℕ). set (set a.out.now a.i (get_or bs 2 0)) (suc a.i) (get_or bs 3 0)) c.to_be_bytes.ensures
+    ∙ stored a.out.now a.i 2 a.x (λ k. grind arith)

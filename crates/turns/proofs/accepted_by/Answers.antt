@@ -1,12 +1,15 @@
 -- `turns::accepted_by` meets its contract.
-use borrow.Author.Tests.{eq-eqb, ne_eqb}
+use mathlib.Core.Bool.{Bool, true, false, cond}
+use mathlib.Core.Path.{◌≡◌, refl, ◌∙◌}
+use Rattle.std.specs.Int.{from_bool}
 use Rattle.turns.specs.Turns.{one_if_accepted}
 use Rattle.turns.proofs.accepted_by.Goals as goal
 
-pub returns-then-ran-eq0 : goal.returns-then-ran-eq0
-unfolding one_if_accepted
-returns-then-ran-eq0 c = simp (eq-eqb _ _ c.if-ran-eq0.true)
+-- a test as std makes it a number
+bit : (b : Bool) → from_bool b ≡ cond b 1 0
+bit true = refl
+bit false = refl
 
-pub returns-else-ran-eq0 : goal.returns-else-ran-eq0
+pub returns : goal.returns
 unfolding one_if_accepted
-returns-else-ran-eq0 c = simp (ne_eqb _ _ c.if-ran-eq0.false)
+returns c = c.from.ensures ∙ bit _

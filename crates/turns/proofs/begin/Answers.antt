@@ -3,8 +3,7 @@ use Rattle.lines.specs.Text.{run_line}
 use Rattle.turns.proofs.begin.Goals as goal
 
 pub returns : goal.returns
-returns c = let put = c in
-    let both = put.put.ensures run_line put.run_line.ensures in
+returns c = let both = c.put.ensures run_line c.run_line.ensures in
     record {
       value = both.0;
       output_after = both.1;

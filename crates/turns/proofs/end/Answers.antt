@@ -4,9 +4,8 @@ use Rattle.turns.proofs.end.Goals as goal
 
 pub returns : goal.returns
 returns c =
-    let put = c in
-    let a = put.args in
-    let both = put.put.ensures (end_line a.lines a.accepted) put.end_line.ensures in
+    let a = c.args in
+    let both = c.put.ensures (end_line a.lines a.accepted) c.end_line.ensures in
     record {
       value = both.0;
       output_after = both.1;

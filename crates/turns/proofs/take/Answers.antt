@@ -5,9 +5,8 @@ use Rattle.turns.proofs.take.Goals as goal
 pub returns : goal.returns
 unfolding turn_of
 returns c =
-    let put = c in
-    let ran = put.args.ran in
-    let says = put.put-length.ensures (text_of ran) put.line_of.ensures in record {
+    let ran = c.args.ran in
+    let says = c.put-length.ensures (text_of ran) c.line_of.ensures in record {
       value = (
         λ i. record { length = says.0.0 i; used = ran.used; accepted = c.accepted_by.ensures i; last = is_last ran },
         says.0.1,

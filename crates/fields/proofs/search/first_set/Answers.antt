@@ -1,6 +1,6 @@
 -- `fields::search::first_set` meets its contract. The invariant: what is found in the bits left is what is found in all.
-use Prim.Native.Nat.{ℕ, suc, ◌+◌, ◌-◌, ◌<◌}
-use mathlib.Core.Path.{◌≡◌, refl, sym, ap, ◌∙◌}
+use Prim.Native.Nat.{ℕ, suc, ◌+◌, ◌-◌, ◌≤◌, ◌<◌, max}
+use mathlib.Core.Path.{◌≡◌, sym, ap, ◌∙◌}
 use native.Mathlib.Numerals.{add-one}
 use native.Mathlib.Omega.{arith}
 use Rattle.fields.specs.FirstSet.{first_set}
@@ -29,8 +29,9 @@ loop-p-preserved c = let l = c.loop-p in
 pub returns : goal.returns
 returns c = let l = c.loop-p in
     let a = c.args in
-    let e : 0 ≡ a.end - l.p = omega arith in
-    sym (nothing_left a.s.now l.p) ∙ ap (first_set a.s.now l.p) e ∙ l.invariant
-
-pub loop-p-init : goal.loop-p-init
-loop-p-init c = refl
+    let none : (p : ℕ) → a.end ≤ p → first_set a.s.now p (a.end - p) ≡ p =
+    λ p h. let e : a.end - p ≡ 0 = omega arith in ap (first_set a.s.now p) e ∙ nothing_left a.s.now p in
+    let here : l.p ≡ first_set a.s.now a.at (a.end - a.at) = sym (none l.p (omega arith)) ∙ l.invariant in
+    let before : a.end ≤ a.at → l.p ≡ a.at = λ h. here ∙ none a.at h in
+    let last : max a.at a.end ≡ l.p = grind arith in
+    c.max.ensures ∙ last ∙ here

@@ -6,6 +6,3 @@ use Rattle.fields.proofs.search.first_set.Given as goal
 
 abbrev pub invariant-loop-p : goal.invariant-loop-p
 invariant-loop-p l = first_set l.s l.p (l.end - l.p) ≡ first_set l.s l.at (l.end - l.at)
-
-abbrev pub decreases-loop-p : goal.decreases-loop-p
-decreases-loop-p l = l.end - l.p

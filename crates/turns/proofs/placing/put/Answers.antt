@@ -9,11 +9,9 @@ use Rattle.turns.proofs.placing.put.Goals as goal
 
 pub returns-then-fits : goal.returns-then-fits
 returns-then-fits c text h =
-    let copy = c in
-    let tested = copy in
-    let a = tested.args in (
+    let a = c.args in (
       line-size a.line text h,
-      line-copied a.output.now a.at a.line _ text (leb-true _ _ (sym tested.fits.ensures ∙ copy.if-fits.true)) copy.copy.ensures h,
+      line-copied a.output.now a.at a.line _ text (leb-true _ _ (sym c.fits.ensures ∙ c.if-fits.true)) c.copy.ensures h,
     )
 
 pub returns-else-fits : goal.returns-else-fits
