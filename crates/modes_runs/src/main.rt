@@ -1,13 +1,26 @@
 // Prints the mode step of every mode for no flags, for each single flag and for all flags set, some steps with two and three flags, steps
 // that are refused, and frame ages. A line is what was asked, the answer's number and its values; of a step by the engine in use, then by
-// the plain one. A line that cannot be written is passed over.
+// the plain one. What cannot be written is passed over.
 #![tactic(auto)]
 
 use modes::Step;
 use std::fmt::{self, Display, Formatter, Write};
 use transitions::names::*;
 
+const STANDARD_OUTPUT: i32 = 1;
+
 const FLAGS: usize = 91;
+
+// The standard output. It goes by `io`: `println!` would rest on one more contract of the toolchain, that of the error's number, which nothing here asks for.
+#[derive(Drop)]
+struct Output;
+
+impl Write for Output {
+    fn write_str(&mut self, text: &str) -> fmt::Result {
+        io::write_all(STANDARD_OUTPUT, text.as_bytes());
+        Ok(())
+    }
+}
 
 // 91 flags, of which these conditions alone are set; a number that is no condition sets none.
 fn flags_with(set: &[u32]) -> [u8; FLAGS] {
@@ -38,22 +51,27 @@ impl Display for Told {
 }
 
 // What was asked, and the step by each engine.
-fn step(rt: &impl Print, asked: impl Display + Drop, mode: u32, flags: &[u8]) {
+fn step(out: &mut Output, asked: impl Display + Drop, mode: u32, flags: &[u8]) {
     let in_use = Told(modes::next_mode(mode, flags));
     let plain = Told(modes::plain::next_mode(mode, flags));
-    let _ = println!(rt; "{asked}{in_use}{plain}");
+    let _ = writeln!(out, "{asked}{in_use}{plain}");
 }
 
 // The steps with no condition set, with each one alone, and with all.
-fn steps(rt: &impl Print, mode: u32) {
+fn steps(out: &mut Output, mode: u32) {
     for n in 0..92 {
-        step(rt, format_args!("step {mode} {n}"), mode, &flags_with(&[n]));
+        step(
+            out,
+            format_args!("step {mode} {n}"),
+            mode,
+            &flags_with(&[n]),
+        );
     }
-    step(rt, format_args!("step {mode} all"), mode, &[1; FLAGS]);
+    step(out, format_args!("step {mode} all"), mode, &[1; FLAGS]);
 }
 
 // The paper's two examples of FS, then a tie of each mode that has one, and two conditions of one transition, which are no tie.
-fn pairs(rt: &impl Print) {
+fn pairs(out: &mut Output) {
     for (mode, a, b) in [
         (FS, 71, 76),
         (FS, 69, 2),
@@ -66,7 +84,7 @@ fn pairs(rt: &impl Print) {
         (SB, 77, 60),
     ] {
         step(
-            rt,
+            out,
             format_args!("two {mode} {a} {b}"),
             mode,
             &flags_with(&[a, b]),
@@ -75,10 +93,10 @@ fn pairs(rt: &impl Print) {
 }
 
 // Steps with three conditions set.
-fn triples(rt: &impl Print, asked: &[(u32, u32, u32, u32)]) {
+fn triples(out: &mut Output, asked: &[(u32, u32, u32, u32)]) {
     for &(mode, a, b, c) in asked {
         step(
-            rt,
+            out,
             format_args!("three {mode} {a} {b} {c}"),
             mode,
             &flags_with(&[a, b, c]),
@@ -117,13 +135,13 @@ const TIES_AMONG_OTHERS: [(u32, u32, u32, u32); 11] = [
 ];
 
 // Numbers that are no mode, then flags that are too few, too many or above 1.
-fn refusals(rt: &impl Print) {
+fn refusals(out: &mut Output) {
     for mode in [0, 14, 257, 4294967295] {
-        step(rt, format_args!("mode {mode}"), mode, &flags_with(&[2]));
+        step(out, format_args!("mode {mode}"), mode, &flags_with(&[2]));
     }
-    step(rt, "flags 90", SB, &[1; 90]);
-    step(rt, "flags 92", SB, &[1; 92]);
-    step(rt, "flag 2", SB, &[2; FLAGS]);
+    step(out, "flags 90", SB, &[1; 90]);
+    step(out, "flags 92", SB, &[1; 92]);
+    step(out, "flag 2", SB, &[2; FLAGS]);
 }
 
 // The paper's example; equal numbers; the ages on both sides of each condition; the ends.
@@ -171,25 +189,28 @@ const NO_AGES: [(u32, u32); 11] = [
     (4_294_967_295, 4_294_967_295),
 ];
 
-fn ages(rt: &impl Print, asked: &[(u32, u32)]) {
+fn ages(out: &mut Output, asked: &[(u32, u32)]) {
     for &(station, onboard) in asked {
         let a = clock::frame_age(station, onboard);
-        let _ = println!(rt;
+        let _ = writeln!(
+            out,
             "age {station} {onboard} {} {} {} {} {}",
             a.answer, a.age, a.condition24, a.condition26, a.condition27
         );
     }
 }
 
-fn main(rt: HostRuntime) {
+fn main() {
+    let mut output = Output;
+    let out = &mut output;
     for mode in SB..=IS {
-        steps(&rt, mode);
+        steps(out, mode);
     }
-    pairs(&rt);
-    triples(&rt, &TIES_CLEARED);
-    triples(&rt, &TIES_AMONG_OTHERS);
-    refusals(&rt);
-    ages(&rt, &AGES);
-    ages(&rt, &OVER_MIDNIGHT);
-    ages(&rt, &NO_AGES);
+    pairs(out);
+    triples(out, &TIES_CLEARED);
+    triples(out, &TIES_AMONG_OTHERS);
+    refusals(out);
+    ages(out, &AGES);
+    ages(out, &OVER_MIDNIGHT);
+    ages(out, &NO_AGES);
 }
