@@ -9,8 +9,11 @@ use native.Mathlib.Omega.{arith}
 use lib.ListN.{length, length-append}
 use borrow.Author.Tests.{lt-ltb, le-ltb, eq-eqb, ne_eqb, eqb-true}
 use Rattle.numbers.proofs.Logic.{lt_or_le}
+use Rattle.std.specs.Prelude.{Option, None, Some}
+use Rattle.std.specs.Option.{unwrap_or}
 use Rattle.transitions.specs.Table.{Transition, those}
 use Rattle.transitions.proofs.Members.{of-those, in_those, some, none}
+use Rattle.modes.specs.declared.Step.{Step}
 use Rattle.modes.specs.Next.{best, winners, has_priority, lowest, tie_mark, accepted, stays, choose}
 use Rattle.modes.specs.Kept.{kept}
 use Rattle.modes.proofs.Least.{least_below, least-one, least_more}
@@ -73,7 +76,7 @@ module _ (m : ℕ) (x : Transition) (xs : List Transition) (a : Transition) wher
       last (w ∷ ws) k =
           rw (least_more (λ b. b.target) w ws a, lt-ltb 1 (length (w ∷ (ws ++ (a ∷ [])))) (omega (arith, length-append ws (a ∷ []))), h)
 
--- priorities are at least 1, so that 0 can stand for none so far
+-- priorities are at least 1, so a step by a transition has none of 0
 abbrev pub Positive : List Transition → Type 0
 Positive xs = (a : Transition) → Memᴰ a xs → 0 < a.priority
 
@@ -82,26 +85,35 @@ positive_best xs h t =
     let w = least-one (λ a. a.priority) xs h in
     omega (arith, w.2, t w.0 w.1)
 
-choose-more : (m : ℕ) (xs : List Transition) (a : Transition) → Positive xs → choose m (xs ++ (a ∷ [])) ≡ kept (choose m xs) a.target a.priority
+-- the step by one of these transitions, where there are any: it hangs on no mode
+abbrev pub choice : List Transition → Option Step
+choice [] = None
+choice (a ∷ xs) = Some (choose 0 (a ∷ xs))
+
+pub choice_or_stays : (m : ℕ) (xs : List Transition) → unwrap_or (choice xs) (stays m) ≡ choose m xs
+unfolding choose
+choice_or_stays m [] = refl
+choice_or_stays m (a ∷ xs) = refl
+
+choice_more : (xs : List Transition) (a : Transition) → choice (xs ++ (a ∷ [])) ≡ Some (kept (choice xs) a.target a.priority)
 unfolding kept choose
-choose-more m [] a t = choose_one m a
-choose-more m (x ∷ xs) a t =
-    let k : 0 < best (x ∷ xs) = positive_best (x ∷ xs) (omega arith) t in
-    rw (ne_eqb (best (x ∷ xs)) 0 (λ e. omega arith))
-    (⊎_elim (λ h. rw (lt-ltb a.priority (best (x ∷ xs)) h) (better m x xs a h))
+choice_more [] a = ap (λ (s : Step). Some s) (choose_one 0 a)
+choice_more (x ∷ xs) a =
+    ap (λ (s : Step). Some s)
+    (⊎_elim (λ h. rw (lt-ltb a.priority (best (x ∷ xs)) h) (better 0 x xs a h))
     (λ h. rw (le-ltb a.priority (best (x ∷ xs)) h)
-    (⊎_elim (λ l. rw (ne_eqb a.priority (best (x ∷ xs)) (λ e. omega arith)) (worse m x xs a l))
-    (λ l. rw (eq-eqb a.priority (best (x ∷ xs)) (omega arith)) (equal m x xs a (omega arith)))
+    (⊎_elim (λ l. rw (ne_eqb a.priority (best (x ∷ xs)) (λ e. omega arith)) (worse 0 x xs a l))
+    (λ l. rw (eq-eqb a.priority (best (x ∷ xs)) (omega arith)) (equal 0 x xs a (omega arith)))
     (lt_or_le (best (x ∷ xs)) a.priority)))
     (lt_or_le a.priority (best (x ∷ xs))))
 
 -- one more transition that is tried: what a walk does at each turn
-pub walk_more : (q : Transition → Bool) (m : ℕ) (xs : List Transition) (a : Transition) → Positive xs → choose m (those q (xs ++ (a ∷ []))) ≡ cond (q a) (kept (choose m (those q xs)) a.target a.priority) (choose m (those q xs))
-walk_more q m xs a t = ap (choose m) (those-append q xs (a ∷ [])) ∙ go (q a)
+pub walk_more : (q : Transition → Bool) (xs : List Transition) (a : Transition) → choice (those q (xs ++ (a ∷ []))) ≡ cond (q a) (Some (kept (choice (those q xs)) a.target a.priority)) (choice (those q xs))
+walk_more q xs a = ap choice (those-append q xs (a ∷ [])) ∙ go (q a)
   where
-    go : (b : Bool) → choose m (those q xs ++ cond b (a ∷ []) []) ≡ cond b (kept (choose m (those q xs)) a.target a.priority) (choose m (those q xs))
-    go true = choose-more m (those q xs) a (λ b h. t b (of-those q b xs h).0)
-    go false = ap (choose m) (append-nil (those q xs))
+    go : (b : Bool) → choice (those q xs ++ cond b (a ∷ []) []) ≡ cond b (Some (kept (choice (those q xs)) a.target a.priority)) (choice (those q xs))
+    go true = choice_more (those q xs) a
+    go false = ap choice (append-nil (those q xs))
 
 -- the numbers of a choice, and the choice among none
 pub choice_mode : (m : ℕ) (xs : List Transition) → 0 < length xs → (choose m xs).mode ≡ lowest (winners xs)

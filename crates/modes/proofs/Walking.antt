@@ -1,26 +1,24 @@
--- A walk over the table, as the code takes it from transition to transition.
+-- A walk over the transitions that leave a mode, as the code takes it from one to the next.
 use mathlib.Core.Path.{◌≡◌, ap, ◌∙◌, sym}
 use mathlib.Core.Bool.{true, false, cond}
 use mathlib.Core.List.{List, [], ◌∷◌, ◌++◌}
 use Prim.Native.Nat.{ℕ, ◌+◌, ◌≤◌, ◌<◌}
 use native.Mathlib.Numerals.{add-one}
-use native.Mathlib.Omega.{arith}
-use lib.ListN.{length, get_or, take}
-use lib.Seq.{slice, slice_empty, take-suc, drop-append-le, length-take-le}
+use lib.ListN.{length, get_or, take, length-map}
+use lib.Seq.{take-suc, take_all}
+use Rattle.std.specs.Prelude.{Option, Some}
 use Rattle.modes.specs.declared.Step.{Step}
-use Rattle.transitions.specs.Table.{Transition, transition_count, table, those}
-use Rattle.transitions.specs.Held.{transition_bytes, bytes_of, table_bytes, stated}
-use Rattle.transitions.proofs.Members.{of_slice}
-use Rattle.transitions.proofs.Checked.{table-checked}
-use Rattle.transitions.proofs.Held.{nowhere, transition_at, bytes_at, wide_at, stated_at}
+use Rattle.transitions.specs.Table.{Transition, table, those, leaves_from}
+use Rattle.transitions.specs.Held.{bytes_of, leaving_bytes, stated}
+use Rattle.transitions.proofs.Held.{nowhere, map_at, stated_among}
 use Rattle.modes.specs.Flags.{any_set}
-use Rattle.modes.specs.Next.{is_open, choose, stays}
+use Rattle.modes.specs.Next.{is_open}
 use Rattle.modes.specs.Kept.{kept, considered}
-use Rattle.modes.proofs.Choosing.{walk_more}
+use Rattle.modes.proofs.Choosing.{choice, walk_more}
 
 -- a transition, given by its bytes, is open, or it is not
-module _ (fs : List ℕ) (s : Step) (bytes : List ℕ) where
-  pub considered_open : any_set fs (stated bytes) ≡ true → considered fs s bytes ≡ kept s (get_or bytes 0 0) (get_or bytes 1 0)
+module _ (fs : List ℕ) (s : Option Step) (bytes : List ℕ) where
+  pub considered_open : any_set fs (stated bytes) ≡ true → considered fs s bytes ≡ Some (kept s (get_or bytes 0 0) (get_or bytes 1 0))
   unfolding considered
   considered_open e = rw e
 
@@ -28,31 +26,36 @@ module _ (fs : List ℕ) (s : Step) (bytes : List ℕ) where
   unfolding considered
   considered_shut e = rw e
 
--- transition t of the table that is lent
-module _ (held : List (List ℕ)) (lent : held ≡ table_bytes) (t : ℕ) (h : t < transition_count) where
-  lent_bytes : get_or held t [] ≡ bytes_of (transition_at t)
-  lent_bytes = ap (λ (l : List (List ℕ)). get_or l t []) lent ∙ bytes_at t h
+-- the transitions that leave mode m, lent by their bytes
+module _ (m : ℕ) (fs : List ℕ) where
+  abbrev leaving : List Transition
+  leaving = those (leaves_from m) table
 
-  pub lent_wide : length (get_or held t []) ≡ transition_bytes
-  lent_wide = ap length lent_bytes ∙ wide_at t
+  -- the best step by the first i of them
+  abbrev pub best_of : ℕ → Option Step
+  best_of i = choice (those (is_open fs) (take i leaving))
 
-  considered_at : (fs : List ℕ) (s : Step) → considered fs s (get_or held t []) ≡ cond (is_open fs (transition_at t)) (kept s (transition_at t).target (transition_at t).priority) s
-  unfolding considered
-  considered_at fs s = ap (considered fs s) lent_bytes ∙ ap (λ (ns : List ℕ). cond (any_set fs ns) (kept s (transition_at t).target (transition_at t).priority) s) (stated_at t)
+  pub as_many : length (leaving_bytes m) ≡ length leaving
+  unfolding leaving_bytes
+  as_many = length-map leaving bytes_of
 
--- a walk starts with the mode as it is, and each turn adds one transition
-pub walk_none : (fs : List ℕ) (m a : ℕ) → stays m ≡ choose m (those (is_open fs) (slice a a table))
-unfolding choose
-walk_none fs m a = sym (ap (λ (l : List Transition). choose m (those (is_open fs) l)) (slice_empty a table))
+  considered_at : (i : ℕ) → i < length leaving → (s : Option Step)
+      → considered fs s (get_or (leaving_bytes m) i []) ≡ cond (is_open fs (get_or leaving i nowhere)) (Some (kept s (get_or leaving i nowhere).target (get_or leaving i nowhere).priority)) s
+  unfolding considered leaving_bytes
+  considered_at i h s =
+      let a = get_or leaving i nowhere in
+      ap (considered fs s) (map_at bytes_of [] leaving i h)
+      ∙ ap (λ (ns : List ℕ). cond (any_set fs ns) (Some (kept s a.target a.priority)) s) (stated_among (leaves_from m) i)
 
-slice_more : (a t : ℕ) (l : List Transition) → a ≤ t → t < length l → slice a (t + 1) l ≡ slice a t l ++ (get_or l t nowhere ∷ [])
-slice_more a t l h k =
-    rw (add-one, take-suc l t nowhere k) (drop-append-le a (take t l) (get_or l t nowhere ∷ []) (omega (arith, length-take-le t l (omega arith))))
+  more : (i : ℕ) → i < length leaving → take (i + 1) leaving ≡ take i leaving ++ (get_or leaving i nowhere ∷ [])
+  more i h = rw (add-one, take-suc leaving i nowhere h)
 
-pub walk_step : (fs : List ℕ) (held : List (List ℕ)) → held ≡ table_bytes → (m a t : ℕ) (s r : Step) → a ≤ t → t < transition_count → s ≡ choose m (those (is_open fs) (slice a t table)) → r ≡ considered fs s (get_or held t []) → r ≡ choose m (those (is_open fs) (slice a (t + 1) table))
-walk_step fs held lent m a t s r h k e f =
-    f
-    ∙ considered_at held lent t k fs s
-    ∙ ap (λ (x : Step). cond (is_open fs (transition_at t)) (kept x (transition_at t).target (transition_at t).priority) x) e
-    ∙ sym (walk_more (is_open fs) m (slice a t table) (transition_at t) (λ b i. (table-checked.transitions b (of_slice a t table i)).priority.0))
-    ∙ sym (ap (λ (l : List Transition). choose m (those (is_open fs) l)) (slice_more a t table h (omega (arith, table-checked.eighty))))
+  -- each turn adds one transition
+  pub walk_step : (i : ℕ) → i < length leaving → considered fs (best_of i) (get_or (leaving_bytes m) i []) ≡ best_of (i + 1)
+  walk_step i h =
+      considered_at i h (best_of i)
+      ∙ sym (walk_more (is_open fs) (take i leaving) (get_or leaving i nowhere))
+      ∙ ap (λ (l : List Transition). choice (those (is_open fs) l)) (sym (more i h))
+
+  pub best_of_all : (i : ℕ) → length leaving ≤ i → best_of i ≡ choice (those (is_open fs) leaving)
+  best_of_all i h = ap (λ (l : List Transition). choice (those (is_open fs) l)) (take_all i leaving h)

@@ -8,12 +8,5 @@ pub(crate) const FLAGS: usize = 91;
 pub(crate) fn has_bad_flag(flags: &[u8]) -> bool
     ensures { result ≡ flag_above_one flags.now }
 {
-    let mut i = 0;
-    while i < flags.len() {
-        if 1 < flags[i] {
-            return true;
-        }
-        i += 1;
-    }
-    false
+    flags.iter().any(|flag| 1 < *flag)
 }

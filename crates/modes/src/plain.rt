@@ -1,26 +1,26 @@
 // The plain engine (document 02, T-09): the mode step as it is read on paper. It tries all 80 transitions, one after another in the order of
 // the paper, and keeps the best so far. With the engine in use it shares what is refused; the best one it finds by itself.
-ghost use mathlib.Core.{Path.◌≡◌, Bool.false, Bool.not, Bool.◌&&◌, List.map};
-ghost use Rattle.std.specs.Prelude.{◌<◌};
+ghost use mathlib.Core.{Path.◌≡◌, Bool.false, Bool.not, Bool.◌&&◌, List.[], List.map};
+ghost use Rattle.std.specs.Prelude.{◌<◌, None};
 ghost use lib.{Dec.eqb, ListN.get_or};
 ghost use Rattle.transitions.specs.Table.{transition_count, table};
 ghost use Rattle.transitions.specs.Held.{table_bytes};
 ghost use Rattle.modes.specs.Flags.{is_set};
-ghost use Rattle.modes.specs.Plain.{so_far, none_so_far, is_better, weighed, counts, walked, told, plain_step};
+ghost use Rattle.modes.specs.Plain.{so_far, weighed, counts, walked, told, plain_step};
 
-use crate::widening::{condition, number};
-use crate::{OUT_OF_RANGE, Step, is_refused};
-use transitions::{Transitions, leaves_from};
+use crate::{Step, is_refused, refused};
+use std::cmp::Ordering;
+use transitions::{Transition, leaves_from};
 
-// The best so far. A priority of 0 is none so far: then the mode stays.
+// The best so far, and whether another ties with it.
 #[derive(Clone, Copy)]
 struct Best {
     mode: u32,
     priority: u32,
-    tie: u32,
+    tie: bool,
 }
 
-fn so_far(mode: u32, priority: u32, tie: u32) -> Best
+fn so_far(mode: u32, priority: u32, tie: bool) -> Best
     ensures { result ≡ so_far mode priority tie }
 {
     Best {
@@ -30,92 +30,69 @@ fn so_far(mode: u32, priority: u32, tie: u32) -> Best
     }
 }
 
-// Is a priority better than that of the best so far? Any is better than none; else the smaller number is the better one.
-fn is_better(priority: u32, best: Best) -> bool
-    ensures { result ≡ is_better priority best }
-{
-    if best.priority == 0 {
-        return true;
-    }
-    priority < best.priority
-}
-
-// The best so far, after one more transition that counts.
-fn weigh(best: Best, target: u32, priority: u32) -> Best
+// The best so far, after one more transition that counts. The smaller number is the better priority.
+fn weigh(best: Option<Best>, target: u32, priority: u32) -> Best
     ensures { result ≡ weighed best target priority }
 {
-    if is_better(priority, best) {
-        return so_far(target, priority, 0);
+    let Some(best) = best else {
+        return so_far(target, priority, false);
+    };
+    match priority.cmp(&best.priority) {
+        Ordering::Less => so_far(target, priority, false),
+        // a tie: the lowest target, and the mark
+        Ordering::Equal => so_far(best.mode.min(target), priority, true),
+        Ordering::Greater => best,
     }
-    if priority != best.priority {
-        return best;
-    }
-    // a tie: the lowest target, and the mark
-    if target < best.mode {
-        return so_far(target, priority, 1);
-    }
-    so_far(best.mode, priority, 1)
 }
 
 // Is a condition set? There is none of number 0: zeros fill up a transition.
 fn is_set(flags: &[u8], condition: usize) -> bool
     ensures { result ≡ not (eqb condition 0) && is_set flags.now condition }
 {
-    if condition == 0 {
-        return false;
-    }
-    numbers::byte_at(flags, condition - 1) == 1
+    condition != 0 && numbers::byte_at(flags, condition - 1) == 1
 }
 
 // Does transition t count? It does where it leaves the mode and one of its conditions is set.
-fn counts(mode: u32, flags: &[u8], held: &Transitions, t: usize) -> bool
-    requires { (held.now ≡ table_bytes) × (t < transition_count) }
+fn counts(mode: u32, flags: &[u8], t: usize, transition: &Transition) -> bool
+    requires { (transition.now ≡ get_or table_bytes t []) × (t < transition_count) }
     ensures { result ≡ get_or (map (counts mode flags.now) table) t false }
 {
-    if !leaves_from(mode, t) {
-        return false;
-    }
-    let transition = held[t];
-    let mut k = transitions::CONDITIONS;
-    while k < transitions::BYTES {
-        if is_set(flags, condition(transition[k])) {
-            return true;
-        }
-        k += 1;
-    }
-    false
+    let mut conditions = transition[transitions::CONDITIONS..].iter();
+    leaves_from(mode, t) && conditions.any(|n| is_set(flags, usize::from(*n)))
 }
 
 // The best so far, after the whole table.
-fn walk(mode: u32, flags: &[u8]) -> Best
-    ensures { result ≡ walked mode flags.now (none_so_far mode) table }
+fn walk(mode: u32, flags: &[u8]) -> Option<Best>
+    ensures { result ≡ walked mode flags.now None table }
 {
-    let held = transitions::all();
-    let mut best = so_far(mode, 0, 0);
-    let mut t = 0;
-    while t < held.len() {
-        if counts(mode, flags, &held, t) {
-            let transition = held[t];
-            best = weigh(
-                best,
-                number(transition[transitions::TARGET]),
-                number(transition[transitions::PRIORITY]),
-            );
+    let mut best = None;
+    for (t, transition) in transitions::all().iter().enumerate() {
+        if counts(mode, flags, t, transition) {
+            let target = u32::from(transition[transitions::TARGET]);
+            let priority = u32::from(transition[transitions::PRIORITY]);
+            best = Some(weigh(best, target, priority));
         }
-        t += 1;
     }
     best
 }
 
-// The step that an answer and the best so far tell.
-fn tell(answer: u32, best: Best) -> Step
-    ensures { result ≡ told answer best }
+// The step that the best so far tells, or its absence: then the mode stays, with priority 0.
+fn tell(mode: u32, best: Option<Best>) -> Step
+    ensures { result ≡ told mode best }
 {
+    let Some(best) = best else {
+        return Step {
+            answer: 0,
+            mode,
+            priority: 0,
+            tie: 0,
+        };
+    };
     Step {
-        answer,
+        answer: 0,
         mode: best.mode,
         priority: best.priority,
-        tie: best.tie,
+        tie: u32::from(best.tie),
     }
 }
 
@@ -124,7 +101,7 @@ pub fn next_mode(mode: u32, flags: &[u8]) -> Step
     ensures { result ≡ plain_step mode flags.now }
 {
     if is_refused(mode, flags) {
-        return tell(OUT_OF_RANGE, so_far(0, 0, 0));
+        return refused();
     }
-    tell(0, walk(mode, flags))
+    tell(mode, walk(mode, flags))
 }

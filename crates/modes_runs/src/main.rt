@@ -1,235 +1,216 @@
 // Prints the mode step of every mode for no flags, for each single flag and for all flags set, some steps with two and three flags, steps
 // that are refused, and frame ages. A line is what was asked, the answer's number and its values; of a step by the engine in use, then by
-// the plain one.
+// the plain one. What cannot be written is passed over.
 #![tactic(auto)]
 
-ghost use Rattle.std.specs.Prelude.{◌≡◌, length};
-ghost use Rattle.modes.specs.Flags.{flag_count};
-
 use modes::Step;
+use std::fmt::{self, Display, Formatter, Write};
 use transitions::names::*;
 
 const STANDARD_OUTPUT: i32 = 1;
 
 const FLAGS: usize = 91;
 
-fn text(s: &[u8]) {
-    io::write_all(STANDARD_OUTPUT, s);
+// The standard output. It goes by `io`: `println!` would rest on one more contract of the toolchain, that of the error's number, which nothing here asks for.
+#[derive(Drop)]
+struct Output;
+
+impl Write for Output {
+    fn write_str(&mut self, text: &str) -> fmt::Result {
+        io::write_all(STANDARD_OUTPUT, text.as_bytes());
+        Ok(())
+    }
 }
 
-fn number(n: u32) {
-    text(b" ");
-    io::print_decimal(STANDARD_OUTPUT, n as u64);
-}
-
-// These flags with condition n set too; the same flags where there is no condition n.
-fn with(flags: [u8; FLAGS], n: usize) -> [u8; FLAGS]
-    requires { flag_count ≡ length flags }
-    ensures { flag_count ≡ length result }
-{
-    let mut changed = flags;
-    if 1 <= n {
-        if n <= FLAGS {
-            changed[n - 1] = 1;
+// 91 flags, of which these conditions alone are set; a number that is no condition sets none.
+fn flags_with(set: &[u32]) -> [u8; FLAGS] {
+    let mut flags = [0; FLAGS];
+    for &n in set {
+        let condition = n as usize;
+        if (1..=FLAGS).contains(&condition) {
+            flags[condition - 1] = 1;
         }
     }
-    changed
+    flags
 }
 
-// 91 flags, of which condition n alone is set; n is 0 for none.
-fn single(n: usize) -> [u8; FLAGS]
-    ensures { flag_count ≡ length result }
-{
-    with([0; FLAGS], n)
-}
+// The numbers of a step, as a line has them.
+#[derive(Drop)]
+struct Told(Step);
 
-// The numbers of a step.
-fn told(s: Step) {
-    number(s.answer);
-    number(s.mode);
-    number(s.priority);
-    number(s.tie);
-}
-
-// A step by each engine, as the rest of a line.
-fn step(mode: u32, flags: &[u8]) {
-    told(modes::next_mode(mode, flags));
-    told(modes::plain::next_mode(mode, flags));
-    text(b"\n");
-}
-
-// The step with condition n alone set, or none where n is 0.
-fn one(mode: u32, n: u32) {
-    text(b"step");
-    number(mode);
-    number(n);
-    step(mode, &single(n as usize));
-}
-
-// The step with all flags set.
-fn all(mode: u32) {
-    text(b"step");
-    number(mode);
-    text(b" all");
-    step(mode, &[1; FLAGS]);
-}
-
-fn steps(mode: u32) {
-    for n in 0..92 {
-        one(mode, n);
+impl Display for Told {
+    fn fmt<W: Write>(&self, f: &mut Formatter<W>) -> fmt::Result {
+        let Step {
+            answer,
+            mode,
+            priority,
+            tie,
+        } = self.0;
+        write!(f, " {answer} {mode} {priority} {tie}")
     }
-    all(mode);
 }
 
-// The step with two conditions set.
-fn two(mode: u32, a: u32, b: u32) {
-    text(b"two");
-    number(mode);
-    number(a);
-    number(b);
-    step(mode, &with(single(a as usize), b as usize));
+// What was asked, and the step by each engine.
+fn step(out: &mut Output, asked: impl Display + Drop, mode: u32, flags: &[u8]) {
+    let in_use = Told(modes::next_mode(mode, flags));
+    let plain = Told(modes::plain::next_mode(mode, flags));
+    let _ = writeln!(out, "{asked}{in_use}{plain}");
+}
+
+// The steps with no condition set, with each one alone, and with all.
+fn steps(out: &mut Output, mode: u32) {
+    for n in 0..92 {
+        step(
+            out,
+            format_args!("step {mode} {n}"),
+            mode,
+            &flags_with(&[n]),
+        );
+    }
+    step(out, format_args!("step {mode} all"), mode, &[1; FLAGS]);
 }
 
 // The paper's two examples of FS, then a tie of each mode that has one, and two conditions of one transition, which are no tie.
-fn pairs() {
-    two(FS, 71, 76);
-    two(FS, 69, 2);
-    two(SB, 60, 62);
-    two(SR, 45, 56);
-    two(LS, 17, 90);
-    two(FS, 56, 58);
-    two(OS, 71, 58);
-    two(PT, 86, 58);
-    two(SB, 77, 60);
+fn pairs(out: &mut Output) {
+    for (mode, a, b) in [
+        (FS, 71, 76),
+        (FS, 69, 2),
+        (SB, 60, 62),
+        (SR, 45, 56),
+        (LS, 17, 90),
+        (FS, 56, 58),
+        (OS, 71, 58),
+        (PT, 86, 58),
+        (SB, 77, 60),
+    ] {
+        step(
+            out,
+            format_args!("two {mode} {a} {b}"),
+            mode,
+            &flags_with(&[a, b]),
+        );
+    }
 }
 
-// The step with three conditions set.
-fn three(mode: u32, a: u32, b: u32, c: u32) {
-    text(b"three");
-    number(mode);
-    number(a);
-    number(b);
-    number(c);
-    step(
-        mode,
-        &with(with(single(a as usize), b as usize), c as usize),
-    );
+// Steps with three conditions set.
+fn triples(out: &mut Output, asked: &[(u32, u32, u32, u32)]) {
+    for &(mode, a, b, c) in asked {
+        step(
+            out,
+            format_args!("three {mode} {a} {b} {c}"),
+            mode,
+            &flags_with(&[a, b, c]),
+        );
+    }
 }
 
 // A tie and then a better one, which clears the mark: each mode and priority that can tie.
-fn ties_cleared() {
-    three(SB, 60, 62, 2);
-    three(SB, 60, 62, 5);
-    three(SB, 61, 53, 5);
-    three(SR, 45, 56, 53);
-    three(LS, 17, 90, 53);
-    three(LS, 58, 56, 53);
-    three(FS, 71, 76, 69);
-    three(FS, 58, 56, 53);
-    three(OS, 71, 58, 53);
-    three(PT, 86, 58, 5);
-}
+const TIES_CLEARED: [(u32, u32, u32, u32); 10] = [
+    (SB, 60, 62, 2),
+    (SB, 60, 62, 5),
+    (SB, 61, 53, 5),
+    (SR, 45, 56, 53),
+    (LS, 17, 90, 53),
+    (LS, 58, 56, 53),
+    (FS, 71, 76, 69),
+    (FS, 58, 56, 53),
+    (OS, 71, 58, 53),
+    (PT, 86, 58, 5),
+];
 
 // A better one between the two that share a priority, and before them; a worse one behind a tie, before it, and between the two that
 // tie; three that tie; two that tie, of which one is open by both its conditions.
-fn ties_among_others() {
-    three(SB, 60, 62, 61);
-    three(OS, 71, 58, 69);
-    three(FS, 71, 76, 17);
-    three(FS, 71, 76, 58);
-    three(LS, 17, 90, 58);
-    three(SR, 45, 56, 87);
-    three(SB, 61, 53, 60);
-    three(SB, 61, 62, 53);
-    three(SB, 60, 62, 63);
-    three(OS, 71, 58, 56);
-    three(SB, 77, 60, 62);
-}
+const TIES_AMONG_OTHERS: [(u32, u32, u32, u32); 11] = [
+    (SB, 60, 62, 61),
+    (OS, 71, 58, 69),
+    (FS, 71, 76, 17),
+    (FS, 71, 76, 58),
+    (LS, 17, 90, 58),
+    (SR, 45, 56, 87),
+    (SB, 61, 53, 60),
+    (SB, 61, 62, 53),
+    (SB, 60, 62, 63),
+    (OS, 71, 58, 56),
+    (SB, 77, 60, 62),
+];
 
 // Numbers that are no mode, then flags that are too few, too many or above 1.
-fn refusals() {
-    text(b"mode 0");
-    step(0, &single(2));
-    text(b"mode 14");
-    step(14, &single(2));
-    text(b"mode 257");
-    step(257, &single(2));
-    text(b"mode 4294967295");
-    step(4294967295, &single(2));
-    text(b"flags 90");
-    step(SB, &[1; 90]);
-    text(b"flags 92");
-    step(SB, &[1; 92]);
-    text(b"flag 2");
-    step(SB, &[2; FLAGS]);
+fn refusals(out: &mut Output) {
+    for mode in [0, 14, 257, 4294967295] {
+        step(out, format_args!("mode {mode}"), mode, &flags_with(&[2]));
+    }
+    step(out, "flags 90", SB, &[1; 90]);
+    step(out, "flags 92", SB, &[1; 92]);
+    step(out, "flag 2", SB, &[2; FLAGS]);
 }
 
-fn age(station: u32, onboard: u32) {
-    let a = clock::frame_age(station, onboard);
-    text(b"age");
-    number(station);
-    number(onboard);
-    number(a.answer);
-    number(a.age);
-    number(a.condition24);
-    number(a.condition26);
-    number(a.condition27);
-    text(b"\n");
-}
+// The paper's example; equal numbers; the ages on both sides of each condition; the ends.
+const AGES: [(u32, u32); 11] = [
+    (20, 11),
+    (500, 500),
+    (503, 500),
+    (504, 500),
+    (509, 500),
+    (510, 500),
+    (529, 500),
+    (530, 500),
+    (1, 1),
+    (86_400, 86_400),
+    (86_400, 1),
+];
 
-// The least differences, the ages on both sides of each condition, and a station just behind.
-fn over_midnight() {
-    age(1, 86_400);
-    age(1, 86_399);
-    age(2, 86_399);
-    age(3, 86_399);
-    age(8, 86_399);
-    age(9, 86_399);
-    age(28, 86_399);
-    age(29, 86_399);
-    age(11, 20);
-    age(1, 2);
-    age(86_399, 86_400);
-}
+// Midnight: the least differences, the ages on both sides of each condition, and a station just behind.
+const OVER_MIDNIGHT: [(u32, u32); 11] = [
+    (1, 86_400),
+    (1, 86_399),
+    (2, 86_399),
+    (3, 86_399),
+    (8, 86_399),
+    (9, 86_399),
+    (28, 86_399),
+    (29, 86_399),
+    (11, 20),
+    (1, 2),
+    (86_399, 86_400),
+];
 
-// The paper's example; equal numbers; the ages on both sides of each condition; the ends; midnight; numbers that are refused.
-fn ages() {
-    age(20, 11);
-    age(500, 500);
-    age(503, 500);
-    age(504, 500);
-    age(509, 500);
-    age(510, 500);
-    age(529, 500);
-    age(530, 500);
-    age(1, 1);
-    age(86_400, 86_400);
-    age(86_400, 1);
-    over_midnight();
-    age(0, 0);
-    age(1, 0);
-    age(0, 1);
-    age(0, 86_400);
-    age(86_400, 0);
-    age(86_401, 1);
-    age(1, 86_401);
-    age(86_401, 86_400);
-    age(86_401, 86_401);
-    age(4_294_967_295, 1);
-    age(4_294_967_295, 4_294_967_295);
-}
+// Numbers that are refused.
+const NO_AGES: [(u32, u32); 11] = [
+    (0, 0),
+    (1, 0),
+    (0, 1),
+    (0, 86_400),
+    (86_400, 0),
+    (86_401, 1),
+    (1, 86_401),
+    (86_401, 86_400),
+    (86_401, 86_401),
+    (4_294_967_295, 1),
+    (4_294_967_295, 4_294_967_295),
+];
 
-fn every_mode() {
-    for mode in SB..IS + 1 {
-        steps(mode);
+fn ages(out: &mut Output, asked: &[(u32, u32)]) {
+    for &(station, onboard) in asked {
+        let a = clock::frame_age(station, onboard);
+        let _ = writeln!(
+            out,
+            "age {station} {onboard} {} {} {} {} {}",
+            a.answer, a.age, a.condition24, a.condition26, a.condition27
+        );
     }
 }
 
 fn main() {
-    every_mode();
-    pairs();
-    ties_cleared();
-    ties_among_others();
-    refusals();
-    ages();
+    let mut output = Output;
+    let out = &mut output;
+    for mode in SB..=IS {
+        steps(out, mode);
+    }
+    pairs(out);
+    triples(out, &TIES_CLEARED);
+    triples(out, &TIES_AMONG_OTHERS);
+    refusals(out);
+    ages(out, &AGES);
+    ages(out, &OVER_MIDNIGHT);
+    ages(out, &NO_AGES);
 }

@@ -1,14 +1,15 @@
 -- Laws of a whole trace: its first entry, and what lies behind it.
-use mathlib.Core.Path.{◌≡◌, refl, sym, ap, ◌∙◌}
+use mathlib.Core.Path.{◌≡◌, refl, sym, ap, ap₂, ◌∙◌}
 use mathlib.Core.Bool.{true, false}
-use mathlib.Core.List.{List, [], ◌∷◌}
-use Prim.Native.Nat.{ℕ, zero, suc, ◌+◌, ◌≤◌, ◌<◌}
+use mathlib.Core.List.{List, [], ◌∷◌, ◌++◌, append-nil}
+use mathlib.Core.Logic.{⊎_elim}
+use Prim.Native.Nat.{ℕ, zero, suc, ◌+◌, ◌≤◌, ◌<◌, min}
 use native.Mathlib.Omega.{arith}
-use lib.ListN.{length, drop, length-drop}
-use lib.Seq.{drop-drop}
+use lib.ListN.{length, take, drop, length-drop, length-append, drop_of_length-le}
+use lib.Seq.{take_all, take-append_seam, drop-append_seam}
+use Rattle.numbers.proofs.Logic.{lt_or_le}
 use Rattle.traces.specs.Entry.{entry_bytes, mode_after, no_mode, is_right, judged}
 use Rattle.traces.specs.Trace.{first_entry, entries_in, entries_of, yes, told_at, walked, checked}
-use Rattle.traces.proofs.EntryLaws.{right-whole, after_front, judged-front}
 
 -- a bound that is large enough does not count
 enough : (n m : ℕ) (s : List ℕ) → length s ≤ n → length s ≤ m → entries_in n s ≡ entries_in m s
@@ -52,39 +53,54 @@ module _ (n previous : ℕ) (s : List ℕ) where
     unfolding walked
     walked_on e = rw (entries_next s some) (rw e)
 
--- ---- the loop: entries that were right are behind it, and what is left decides
+-- ---- the loop: entries that were right are behind it, so many, and what is left decides
 
-pub record Reached (s : List ℕ) (at n previous : ℕ) : Type 0 where
-  pub inside : at ≤ length s
-  pub few : n ≤ at + 1
-  pub left : checked s ≡ walked n previous (entries_of (drop at s))
+pub record Reached (s : List ℕ) (behind previous : ℕ) (left : List ℕ) : Type 0 where
+  pub so_far : checked s ≡ walked (behind + 1) previous (entries_of left)
 
-pub reached_first : (s : List ℕ) → Reached s 0 1 no_mode
+pub reached_first : (s : List ℕ) → Reached s 0 no_mode s
 unfolding checked
-reached_first s = record { inside = omega arith; few = omega arith; left = refl }
+reached_first s = record { so_far = refl }
 
-module _ {s : List ℕ} {at n previous : ℕ} (r : Reached s at n previous) where
-  pub reached_end : length s ≤ at → yes ≡ checked s
-  reached_end h = walked_end n previous (drop at s) (omega (arith, length-drop at s)) ∙ sym r.left
+nothing : (l : List ℕ) → length l ≡ 0 → l ≡ []
+nothing [] h = refl
+nothing (b ∷ more) h = absurd (omega arith)
 
-  module _ (h : at < length s) where
-    some_left : 0 < length (drop at s)
-    some_left = omega (arith, length-drop at s)
+module _ {s : List ℕ} {behind previous : ℕ} {left : List ℕ} (r : Reached s behind previous left) where
+  pub reached_end : length left ≡ 0 → yes ≡ checked s
+  reached_end h = walked_end (behind + 1) previous left h ∙ sym r.so_far
 
-    -- what is judged is the first entry of what is left
-    first-judged : judged previous (first_entry (drop at s)) ≡ judged previous (drop at s)
-    first-judged = judged-front (drop at s) entry_bytes (omega arith) previous
+  -- an entry is cut off
+  module _ (entry more : List ℕ) (cut : left ≡ entry ++ more) (long : length entry ≡ min entry_bytes (length left)) (some : 0 < length left) where
+    short : length left < entry_bytes → more ≡ []
+    short h = nothing more (omega (arith, ap length cut, length-append entry more))
 
-    pub reached_told : is_right (judged previous (drop at s)) ≡ false → told_at n (judged previous (drop at s)) ≡ checked s
+    is-first : entry ≡ first_entry left
+    is-first =
+        ⊎_elim (λ h. sym (take_all entry_bytes left (omega arith) ∙ cut ∙ rw (short h) (append-nil entry)))
+        (λ h.
+        let whole : entry_bytes ≡ length entry = omega arith in
+        sym (ap (take entry_bytes) cut ∙ ap (λ n. take n (entry ++ more)) whole ∙ take-append_seam entry more))
+        (lt_or_le (length left) entry_bytes)
+
+    is-rest : more ≡ drop entry_bytes left
+    is-rest =
+        ⊎_elim (λ h. short h ∙ sym (drop_of_length-le left {i = entry_bytes} (omega arith)))
+        (λ h.
+        let whole : entry_bytes ≡ length entry = omega arith in
+        sym (ap (drop entry_bytes) cut ∙ ap (λ n. drop n (entry ++ more)) whole ∙ drop-append_seam entry more))
+        (lt_or_le (length left) entry_bytes)
+
+    pub reached_told : is_right (judged previous entry) ≡ false → told_at (behind + 1) (judged previous entry) ≡ checked s
     reached_told w =
-        ap (told_at n) (sym first-judged) ∙ walked-told n previous (drop at s) some_left (ap is_right first-judged ∙ w) ∙ sym r.left
+        ap (λ (e : List ℕ). told_at (behind + 1) (judged previous e)) is-first
+        ∙ walked-told (behind + 1) previous left some (rw is-first at w)
+        ∙ sym r.so_far
 
-    pub reached_next : is_right (judged previous (drop at s)) ≡ true → Reached s (at + entry_bytes) (n + 1) (mode_after (drop at s))
+    pub reached_next : is_right (judged previous entry) ≡ true → Reached s (behind + 1) (mode_after entry) more
     reached_next w = record {
-      inside = omega (arith, right-whole previous (drop at s) w, length-drop at s);
-      few = omega (arith, r.few);
-      left =
-          r.left
-          ∙ walked_on n previous (drop at s) some_left (ap is_right first-judged ∙ w)
-          ∙ λ i. walked (n + 1) (after_front (drop at s) entry_bytes (omega arith) i) (entries_of (drop-drop entry_bytes at s i));
+      so_far =
+          r.so_far
+          ∙ walked_on (behind + 1) previous left some (rw is-first at w)
+          ∙ ap₂ (λ (e l : List ℕ). walked (behind + 1 + 1) (mode_after e) (entries_of l)) (sym is-first) (sym is-rest);
     }

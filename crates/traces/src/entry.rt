@@ -19,7 +19,7 @@ pub const MODE_AFTER: usize = 94;
 // The answer to bytes that do not begin with a whole entry.
 pub const BAD_ENTRY: u32 = 24;
 
-// No previous mode: nothing came before.
+// No previous mode: nothing came before. It is a number and no Option, since C hands it to `kb_check_trace_entry`.
 pub const NONE: u32 = 0;
 
 // Which of its modes is wrong.
@@ -29,7 +29,8 @@ pub const BEFORE: u32 = 1;
 
 const AFTER: u32 = 2;
 
-// What an entry is judged: refused, or one of its modes wrong and another due, or right.
+// What an entry is judged: refused, or one of its modes wrong and another due, or right. It is what `kb_check_trace_entry` hands to C, so the answer, which
+// of the modes is wrong, and the mode due are numbers.
 #[repr(C)]
 #[derive(Clone, Copy)]
 pub struct Judged {
@@ -96,13 +97,7 @@ fn is_out_of_range(previous: u32, entry: &[u8], step: Step) -> bool
     requires { step ≡ next_step (mode_before entry.now) (flags_of entry.now) }
     ensures { result ≡ is_out_of_range previous entry.now }
 {
-    if names::IS < previous {
-        return true;
-    }
-    if step.answer != 0 {
-        return true;
-    }
-    !names::is_mode(mode_after(entry))
+    names::IS < previous || step.answer != 0 || !names::is_mode(mode_after(entry))
 }
 
 // Does an entry go on from the previous mode? The first one may begin with any.

@@ -5,7 +5,7 @@ ghost use Rattle.traces.specs.Trace.{yes, told_at, checked};
 use crate::entry;
 use crate::entry::Judged;
 
-// The first entry that is refused or wrong, counted from 1, with the refusal or the mode due; zeros where there is none.
+// The first entry that is refused or wrong, counted from 1, with the refusal or the mode due; zeros where there is none: `kb_check_trace` hands it to C.
 #[repr(C)]
 #[derive(Clone, Copy)]
 pub struct Checked {
@@ -39,17 +39,12 @@ pub fn check(trace: &[u8]) -> Checked
     ensures { result ≡ checked trace.now }
 {
     let mut previous = entry::NONE;
-    let mut number: usize = 1;
-    let mut at: usize = 0;
-    while at < trace.len() {
-        let rest = &trace[at..];
-        let judged = entry::judge(previous, rest);
+    for (i, bytes) in trace.chunks(entry::BYTES).enumerate() {
+        let judged = entry::judge(previous, bytes);
         if !judged.is_right() {
-            return told_at(number, judged);
+            return told_at(i + 1, judged);
         }
-        previous = entry::mode_after(rest);
-        number += 1;
-        at += entry::BYTES;
+        previous = entry::mode_after(bytes);
     }
     yes()
 }

@@ -1,18 +1,19 @@
 -- How the code holds the table: each transition by its bytes, those of a mode together.
 use mathlib.Core.Path.{◌≡◌, refl, ap, ◌∙◌, sym}
-use mathlib.Core.Bool.{Bool, true, false, cond, ◌&&◌}
+use mathlib.Core.Bool.{Bool, true, false, cond, ◌&&◌, false≢true}
 use mathlib.Core.List.{List, [], ◌∷◌, map}
 use mathlib.Core.Logic.{⊎_elim}
-use Prim.Native.Nat.{ℕ, zero, suc, ◌+◌, ◌≤◌, ◌<◌}
+use Prim.Native.Nat.{ℕ, zero, suc, ◌+◌, ◌-◌, ◌≤◌, ◌<◌}
 use native.Mathlib.Numerals.{add-one}
 use native.Mathlib.Omega.{arith}
 use lib.Dec.{eqb, leb, ltb}
-use lib.ListN.{length, get_or, drop, length-map, get_or-map, get_or-eq_default}
+use lib.ListN.{length, get_or, take, drop, length-map, get_or-map, get_or-eq_default}
 use lib.Seq.{slice}
-use borrow.Author.Tests.{leb-true, lt-ltb, le-ltb, ltb-true, eq-eqb, ne_eqb}
-use Rattle.transitions.specs.Names.{IS}
+use Rattle.std.proofs.lemmas.List.{drop-map, take-map, drop-take}
+use borrow.Author.Tests.{leb-true, lt-ltb, le-ltb, ltb-true, le-leb, lt-leb, eq-eqb, ne_eqb}
+use Rattle.transitions.specs.Names.{SB, IS, is_mode}
 use Rattle.transitions.specs.Table.{Transition, transition_count, table, those, leaves_from}
-use Rattle.transitions.specs.Held.{transition_bytes, bytes_of, table_bytes, first_of, leaves_at, stated}
+use Rattle.transitions.specs.Held.{bytes_of, table_bytes, first_of, leaves_at, leaving_bytes, stated}
 use Rattle.numbers.proofs.Logic.{both, lt_or_le}
 use Rattle.transitions.proofs.Members.{more_pass, no_more}
 use Rattle.transitions.proofs.Checked.{table-checked}
@@ -65,6 +66,10 @@ pub starts_in : (m : ℕ) → first_of m ≤ transition_count
 unfolding first_of
 starts_in m = omega (arith, no_more (λ a. ltb a.leaves m) table, table-checked.eighty)
 
+first-one : first_of SB ≡ 0
+unfolding first_of table
+first-one = refl
+
 last-start : first_of (IS + 1) ≡ transition_count
 unfolding first_of table
 last-start = refl
@@ -92,6 +97,11 @@ line m h =
     let e = mode_at m h in
     ap leaving (sym e) ∙ same_at leaving stretch modes 0 lines line-none m ∙ ap stretch e ∙ ap (λ n. slice (first_of m) (first_of n) table) (sym (add-one m))
 
+-- none passes a test where none at any index does
+none_pass : (p : Transition → Bool) (xs : List Transition) → ((t : ℕ) → get_or (map p xs) t false ≡ false) → those p xs ≡ []
+none_pass p [] h = refl
+none_pass p (x ∷ xs) h = rw (h 0) (none_pass p xs (λ t. h (suc t)))
+
 -- no transition, for the indexes that the table does not have
 abbrev pub nowhere : Transition
 nowhere = record { leaves = 0; target = 0; conditions = []; priority = 0 }
@@ -109,20 +119,25 @@ pub bytes_at : (t : ℕ) → t < transition_count → get_or table_bytes t [] �
 unfolding table_bytes
 bytes_at t h = map_at bytes_of [] table t (omega (arith, table-checked.eighty))
 
--- a transition's bytes are so many, and state its conditions
-all-wide : map (λ (a : Transition). length (bytes_of a)) table ≡ map (λ _. transition_bytes) table
-unfolding table
-all-wide = refl
-
-pub wide_at : (t : ℕ) → length (bytes_of (transition_at t)) ≡ transition_bytes
-wide_at = same_at (λ a. length (bytes_of a)) (λ _. transition_bytes) table nowhere all-wide refl
-
+-- a transition's bytes state its conditions
 all-stated : map (λ (a : Transition). stated (bytes_of a)) table ≡ map (λ (a : Transition). a.conditions) table
 unfolding table
 all-stated = refl
 
-pub stated_at : (t : ℕ) → stated (bytes_of (transition_at t)) ≡ (transition_at t).conditions
-stated_at = same_at (λ a. stated (bytes_of a)) (λ a. a.conditions) table nowhere all-stated refl
+-- those that pass a test: where two functions agree on all, they agree on these
+among_agree : {B : Type 0} (p : Transition → Bool) (f g : Transition → B) (xs : List Transition) → map f xs ≡ map g xs → map f (those p xs) ≡ map g (those p xs)
+among_agree p f g [] e = refl
+among_agree p f g (x ∷ xs) e = let rest : map f xs ≡ map g xs = cc in go (p x) (among_agree p f g xs rest)
+  where
+    go : (b : Bool) → map f (those p xs) ≡ map g (those p xs) → map f (cond b (x ∷ those p xs) (those p xs)) ≡ map g (cond b (x ∷ those p xs) (those p xs))
+    go true k = let here : f x ≡ g x = cc in cc
+    go false k = k
+
+pub stated_among : (p : Transition → Bool) (t : ℕ) → stated (bytes_of (get_or (those p table) t nowhere)) ≡ (get_or (those p table) t nowhere).conditions
+stated_among p =
+    let stating = λ (a : Transition). stated (bytes_of a) in
+    let named = λ (a : Transition). a.conditions in
+    same_at stating named (those p table) nowhere (among_agree p stating named table all-stated) refl
 
 -- so do those of them behind target and priority that are not zero
 abbrev pub nonzero : List ℕ → List ℕ
@@ -164,7 +179,7 @@ module _ (m t : ℕ) where
   leaves-other : t < transition_count → ((transition_at t).leaves ≡ m → ⊥) → leaves_at m t ≡ false
   leaves-other h n = from_at h ∙ ne_eqb (transition_at t).leaves m n
 
-  pub from-before : t < first_of m → leaves_at m t ≡ false
+  from-before : t < first_of m → leaves_at m t ≡ false
   from-before h =
       let k : t < transition_count = omega (arith, starts_in m) in
       leaves-other k (λ e. omega (arith, ap first_of e, (stand t k).0))
@@ -185,11 +200,37 @@ module _ (m t : ℕ) where
       (⊎_elim (λ low. absurd (omega (arith, starts_rise (l + 1) m (omega arith), s.1)))
       (λ high. ⊎_elim (λ up. absurd (omega (arith, starts_rise (m + 1) l (omega arith), s.0))) (λ down. omega arith) (lt_or_le m l)) (lt_or_le l m))
 
-  pub from_start : first_of m ≤ t → ltb t (first_of (m + 1)) ≡ leaves_at m t
+  from_start : first_of m ≤ t → ltb t (first_of (m + 1)) ≡ leaves_at m t
   from_start h =
       ⊎_elim (λ k. lt-ltb t (first_of (m + 1)) k ∙ sym (among h k)) (λ k. le-ltb t (first_of (m + 1)) k ∙ sym (behind k))
       (lt_or_le t (first_of (m + 1)))
 
-  -- there is no mode above the last
-  pub from-none : IS < m → leaves_at m t ≡ false
+  pub between : (leb (first_of m) t && ltb t (first_of (m + 1))) ≡ leaves_at m t
+  between = ⊎_elim (λ h. rw (lt-leb (first_of m) t h) (sym (from-before h))) (λ h. rw (le-leb (first_of m) t h) (from_start h)) (lt_or_le t (first_of m))
+
+  -- there is no mode above the last, and none with the number 0
+  from-none : IS < m → leaves_at m t ≡ false
   from-none h = ⊎_elim (λ k. from-before (omega (arith, start-behind m h))) (λ k. behind (omega (arith, starts_in (m + 1)))) (lt_or_le t transition_count)
+
+  pub no_mode_none : is_mode m ≡ false → leaves_at m t ≡ false
+  unfolding is_mode
+  no_mode_none h =
+      ⊎_elim (λ low. behind (omega (arith, ap (λ n. first_of (n + 1)) {x = m} {y = 0} (omega arith), first-one)))
+      (λ some. ⊎_elim from-none (λ k. absurd (false≢true (sym h ∙ simp (le-leb SB m some, le-leb m IS k)))) (lt_or_le IS m))
+      (lt_or_le m SB)
+
+-- those that leave a mode, as a part of the table that is lent
+module _ (m : ℕ) where
+  pub leaving_part : m ≤ IS → take (first_of (m + 1) - first_of m) (drop (first_of m) table_bytes) ≡ leaving_bytes m
+  unfolding table_bytes leaving_bytes
+  leaving_part h =
+      let start = first_of m in
+      let count = first_of (m + 1) - first_of m in
+      let up : start + count ≡ first_of (m + 1) = omega (arith, starts_rise m (m + 1) (omega arith)) in
+      ap (take count) (drop-map bytes_of start table)
+      ∙ take-map bytes_of count (drop start table)
+      ∙ ap (map bytes_of) (sym (drop-take start count table) ∙ ap (λ n. slice start n table) up ∙ sym (line m h))
+
+  pub leaving_none : is_mode m ≡ false → [] ≡ leaving_bytes m
+  unfolding leaving_bytes
+  leaving_none h = ap (map bytes_of) (sym (none_pass (leaves_from m) table (λ t. no_mode_none m t h)))

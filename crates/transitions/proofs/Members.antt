@@ -1,13 +1,12 @@
--- Which transitions a list has: those that pass a test, a stretch of a list, a test that all pass.
+-- Which transitions a list has: those that pass a test, and a test that all pass.
 use mathlib.Core.Path.{◌≡◌, refl, ap, ◌∙◌, sym}
 use mathlib.Core.Bool.{Bool, true, false, cond, ◌&&◌, false≢true}
 use mathlib.Core.List.Memᴰ
 use mathlib.Core.List.{List, [], ◌∷◌, Memᴰ}
 use mathlib.Core.Logic.{⊎_elim, ◌⊎◌}
-use Prim.Native.Nat.{ℕ, zero, suc, ◌≤◌, ◌<◌}
+use Prim.Native.Nat.{◌≤◌, ◌<◌}
 use native.Mathlib.Omega.{arith}
-use lib.ListN.{length, take, drop}
-use lib.Seq.{slice}
+use lib.ListN.{length}
 use Rattle.transitions.specs.Table.{Transition, those}
 use Rattle.numbers.proofs.Logic.{both}
 
@@ -48,20 +47,6 @@ no_more p (x ∷ xs) = go (p x) (no_more p xs)
     go : (b : Bool) → length (those p xs) ≤ length xs → length (cond b (x ∷ those p xs) (those p xs)) ≤ length (x ∷ xs)
     go true h = omega arith
     go false h = omega arith
-
--- what is in a stretch of a list is in the list
-of-take : (n : ℕ) (xs : List Transition) {a : Transition} → Memᴰ a (take n xs) → Memᴰ a xs
-of-take zero xs h = absurd (Memᴰ.not-nil h)
-of-take (suc n) [] h = h
-of-take (suc n) (x ∷ xs) h = ⊎_elim (λ e. Memᴰ.head e) (λ k. Memᴰ.tail (of-take n xs k)) (Memᴰ.cases_cons h)
-
-of-drop : (n : ℕ) (xs : List Transition) {a : Transition} → Memᴰ a (drop n xs) → Memᴰ a xs
-of-drop zero xs h = h
-of-drop (suc n) [] h = h
-of-drop (suc n) (x ∷ xs) h = Memᴰ.tail (of-drop n xs h)
-
-pub of_slice : (i j : ℕ) (xs : List Transition) {a : Transition} → Memᴰ a (slice i j xs) → Memᴰ a xs
-of_slice i j xs h = of-take j xs (of-drop i (take j xs) h)
 
 -- a list that has one is not empty, and one that has none is
 pub some : {a : Transition} (xs : List Transition) → Memᴰ a xs → 0 < length xs

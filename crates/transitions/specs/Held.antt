@@ -23,6 +23,10 @@ first_of m = length (those (λ a. ltb a.leaves m) table)
 abbrev pub leaves_at : ℕ → ℕ → Bool
 leaves_at m t = get_or (map (leaves_from m) table) t false
 
+-- those that leave mode m, each by its bytes
+unfoldable pub leaving_bytes : ℕ → List (List ℕ)
+leaving_bytes m = map bytes_of (those (leaves_from m) table)
+
 -- what stands before the first zero
 abbrev pub before_zero : List ℕ → List ℕ
 before_zero [] = []

@@ -5,11 +5,12 @@ pub mod names;
 mod table;
 
 ghost use Rattle.std.specs.Prelude.{◌≡◌};
-ghost use Rattle.transitions.specs.Held.{table_bytes, first_of, leaves_at};
+ghost use Rattle.transitions.specs.Held.{table_bytes, first_of, leaves_at, leaving_bytes};
 
 const COUNT: usize = 80;
 
-// A transition is the target, the priority and the conditions, filled up with zeros: the longest list has nine.
+// A transition is the target, the priority and the conditions, filled up with zeros: the longest list has nine. It stays a row of bytes, since a struct
+// with names for its fields is no plainer: 80 of them written out no longer read as document 01 does, a line for each transition.
 pub const BYTES: usize = 11;
 
 pub const TARGET: usize = 0;
@@ -23,20 +24,20 @@ pub type Transition = [u8; BYTES];
 pub type Transitions = [Transition; COUNT];
 
 // The whole table.
-pub fn all() -> Transitions
-    ensures { result ≡ table_bytes }
+pub fn all() -> &'static Transitions
+    ensures { result.now ≡ table_bytes }
 {
-    table::TRANSITIONS
+    &table::TRANSITIONS
 }
 
 // Where the transitions of a mode start; those of a number above the last mode's would start behind the last one.
 pub fn first(mode: u32) -> usize
     ensures { result ≡ first_of mode }
 {
-    if names::IS < mode {
-        return COUNT;
+    match table::FIRST.get(mode as usize) {
+        Some(&start) => start,
+        None => COUNT,
     }
-    table::FIRST[mode as usize]
 }
 
 // Does transition t, counted from 0, leave the mode? Those of a mode stand from its first to the next mode's.
@@ -44,11 +45,15 @@ pub fn leaves_from(mode: u32, t: usize) -> bool
     ensures { result ≡ leaves_at mode t }
 {
     // no transition leaves what is no mode, and mode + 1 must be a number
-    if names::IS < mode {
-        return false;
+    names::is_mode(mode) && (first(mode)..first(mode + 1)).contains(&t)
+}
+
+// The transitions that leave a mode, in the order of the table; none leaves what is no mode.
+pub fn leaving(mode: u32) -> &'static [Transition]
+    ensures { result.now ≡ leaving_bytes mode }
+{
+    if !names::is_mode(mode) {
+        return &[];
     }
-    if t < first(mode) {
-        return false;
-    }
-    t < first(mode + 1)
+    &all()[first(mode)..first(mode + 1)]
 }

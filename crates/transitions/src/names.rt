@@ -1,4 +1,4 @@
-// The modes and their numbers.
+// The modes and their numbers. They stay numbers and no enum: `is_mode`, `first`, `leaving` and `leaves_from` answer for any number, and C hands over such.
 ghost use Rattle.std.specs.Prelude.{◌≡◌};
 ghost use Rattle.transitions.specs.Names.{is_mode};
 
@@ -32,5 +32,5 @@ pub const IS: u32 = 13;
 pub fn is_mode(mode: u32) -> bool
     ensures { result ≡ is_mode mode }
 {
-    SB <= mode && mode <= IS
+    (SB..=IS).contains(&mode)
 }

@@ -3,9 +3,9 @@ use crate::Transitions;
 use crate::names::*;
 
 // The transitions of mode m start at FIRST[m] and end where those of the next mode start.
-pub(crate) const FIRST: [usize; 14] = [0, 0, 11, 18, 26, 37, 44, 54, 57, 63, 67, 71, 74, 77];
+pub(crate) static FIRST: [usize; 14] = [0, 0, 11, 18, 26, 37, 44, 54, 57, 63, 67, 71, 74, 77];
 
-pub(crate) const TRANSITIONS: Transitions = [
+pub(crate) static TRANSITIONS: Transitions = [
     // SB
     [SR as u8, 4, 77, 60, 0, 0, 0, 0, 0, 0, 0],
     [LS as u8, 3, 61, 0, 0, 0, 0, 0, 0, 0, 0],

@@ -1,24 +1,31 @@
 -- `modes::walk` meets its contract. The loop's invariant: the best so far is the choice among the transitions passed.
-use mathlib.Core.Path.{◌≡◌, ◌∙◌}
+use mathlib.Core.Path.{ap, ap₂, ◌∙◌}
+use mathlib.Core.List.{List, []}
+use Prim.Native.Nat.{ℕ}
 use native.Mathlib.Omega.{arith}
-use Rattle.modes.proofs.Walking.{walk_none, walk_step, lent_wide}
+use lib.ListN.{length, get_or}
+use Rattle.std.specs.Prelude.{Option}
+use Rattle.std.specs.Option.{unwrap_or}
+use Rattle.modes.specs.declared.Step.{Step}
+use Rattle.modes.specs.Next.{opens}
+use Rattle.modes.specs.Kept.{considered}
+use Rattle.modes.proofs.Walking.{walk_step, best_of_all, as_many}
+use Rattle.modes.proofs.Choosing.{choice_or_stays}
 use Rattle.modes.proofs.walk.Goals as goal
 
-pub loop-t-init : goal.loop-t-init
-loop-t-init c =
-    let a = c.args in
-    (omega arith, omega arith, c.accept-best.ensures ∙ walk_none a.flags.now a.mode a.start)
-
-pub consider-best-requires : goal.consider-best-requires
-consider-best-requires c = lent_wide _ c.requires.0 c.loop-t.t (omega arith)
-
-pub loop-t-preserved : goal.loop-t-preserved
-loop-t-preserved c =
-    let s = c in
-    let l = c.loop-t in
-    (omega arith, omega arith, walk_step s.args.flags.now _ s.requires.0 s.args.mode s.args.start l.t l.best _ l.invariant.0 (omega arith) l.invariant.2 c.consider-best.ensures)
+pub loop-transition-preserved : goal.loop-transition-preserved
+loop-transition-preserved c =
+    let m = c.args.mode in
+    let fs = c.args.flags.now in
+    let i = c.loop-transition.transition-index in
+    c.consider-best.ensures
+    ∙ ap₂ (λ (s : Option Step) (l : List (List ℕ)). considered fs s (get_or l i [])) c.loop-transition.invariant c.requires
+    ∙ walk_step m fs i (omega (arith, ap length c.requires, as_many m fs))
 
 pub returns : goal.returns
 returns c =
-    let e : c.loop-t.t ≡ c.args.end = omega arith in
-    rw e at c.loop-t.invariant.2
+    let m = c.args.mode in
+    let fs = c.args.flags.now in
+    let i = c.loop-transition.transition-index in
+    let whole = best_of_all m fs i (omega (arith, ap length c.requires, as_many m fs)) in
+    c.unwrap_or.ensures ∙ ap₂ unwrap_or (c.loop-transition.invariant ∙ whole) c.accept.ensures ∙ choice_or_stays m (opens m fs)

@@ -1,13 +1,7 @@
 -- `modes::walk` meets its contract. The loop's invariant: the best so far is the choice among the transitions passed.
 use mathlib.Core.Path.{◌≡◌}
-use Prim.Native.Nat.{◌≤◌, ◌-◌}
-use lib.Seq.{slice}
-use Rattle.transitions.specs.Table.{table, those}
-use Rattle.modes.specs.Next.{is_open, choose}
+use Rattle.modes.proofs.Walking.{best_of}
 use Rattle.modes.proofs.walk.Given as goal
 
-abbrev pub invariant-loop-t : goal.invariant-loop-t
-invariant-loop-t l = (l.start ≤ l.t) × (l.t ≤ l.end) × (l.best ≡ choose l.mode (those (is_open l.flags) (slice l.start l.t table)))
-
-abbrev pub decreases-loop-t : goal.decreases-loop-t
-decreases-loop-t l = l.end - l.t
+abbrev pub invariant-loop-transition : goal.invariant-loop-transition
+invariant-loop-transition l = l.best ≡ best_of l.mode l.flags l.transition-index

@@ -1,36 +1,20 @@
--- `modes::plain::weigh` meets its contract, a case for each way through the tests.
-use mathlib.Core.Path.{◌≡◌, ◌∙◌, sym}
-use mathlib.Core.Bool.{false}
-use Prim.Native.Nat.{◌≤◌}
-use native.Mathlib.Nat.{min-eq_left, min-eq_right}
-use native.Mathlib.Omega.{arith}
-use borrow.Author.Tests.{eq-eqb, ne_eqb}
-use Rattle.modes.specs.Plain.{is_better, weighed}
-use Rattle.modes.proofs.plain.weigh.Goals.{Else-is_better}
+-- `modes::plain::weigh` meets its contract: there is no best so far, or the priorities are compared.
+use borrow.Author.Rules.{rules}
+use Rattle.modes.specs.Plain.{weighed}
 use Rattle.modes.proofs.plain.weigh.Goals as goal
 
-pub returns-then-is_better : goal.returns-then-is_better
+pub returns-in_default : goal.returns-in_default
 unfolding weighed
-returns-then-is_better c = c.so_far.ensures ∙ simp (sym c.is_better.ensures ∙ c.if-is_better.true)
+returns-in_default c = search rules
 
--- the transition is not better
-not_better : (c : Else-is_better) → is_better c.args.priority c.args.best ≡ false
-not_better c = sym c.is_better.ensures ∙ c.if-is_better.false
-
-pub returns-then-priority-best : goal.returns-then-priority-best
+pub returns-in-Less : goal.returns-in-Less
 unfolding weighed
-returns-then-priority-best c = simp (not_better (goal.at.returns-then-priority-best c).Else-is_better, ne_eqb _ _ c.if-priority-best.true)
+returns-in-Less c = search rules
 
-pub returns-then-target-best : goal.returns-then-target-best
+pub returns-in-Equal : goal.returns-in-Equal
 unfolding weighed
-returns-then-target-best c =
-    let a = c.args in
-    let le : a.target ≤ a.best.mode = omega arith in
-    c.so_far-then-target-best.ensures
-    ∙ simp (not_better (goal.at.returns-then-target-best c).Else-is_better, eq-eqb _ _ c.if-priority-best.false, min-eq_right le)
+returns-in-Equal c = search rules
 
-pub returns : goal.returns
+pub returns-in-Greater : goal.returns-in-Greater
 unfolding weighed
-returns c =
-    c.so_far-2.ensures
-    ∙ simp (not_better (goal.at.returns c).Else-is_better, eq-eqb _ _ c.if-priority-best.false, min-eq_left c.if-target-best.false)
+returns-in-Greater c = search rules
