@@ -19,10 +19,11 @@ use trains::sought::ROWS;
 const LAST_ENTRY: usize = layout::SESSION - layout::ENTRY;
 
 // Do the bytes, which are a session's, have all of the entry that starts at one?
+#[tactic(auto, unfolding(replay::specs::Demand3::depth))]
 fn has_entry(s: &[u8], at: usize) -> bool
     ensures { result ≡ has_entry s.now at }
 {
-    layout::is_session(s) & (at <= LAST_ENTRY)
+    layout::is_session(s) && at <= LAST_ENTRY
 }
 
 // Row i, where it is one of the register's, from an offset to another, by way of other bytes.

@@ -7,10 +7,10 @@ use native.Mathlib.Omega.{arith}
 use lib.ListN.{length}
 use borrow.Author.Tests.{eq-eqb, lt-ltb, le-leb}
 use Rattle.rules.specs.declared.effect.Effect.{Effect}
+use Rattle.rules.specs.declared.effect.Run.{Run}
 use Rattle.replay.specs.Demand3.{depth}
 use Rattle.store.specs.Layout.{is_session, entry_bytes, entry_offset, session_bytes}
 use Rattle.store.proofs.ViewLaws.{entry-room}
-use Rattle.kinds.specs.declared.Slot.{Slot}
 use Rattle.kinds.specs.declared.Ticket.{Ticket}
 use Rattle.entries.specs.Entry.{has_entry}
 use Rattle.entries.specs.Kept.{in_bounds}
@@ -28,12 +28,12 @@ settled_in_lem bs counter e l h = simp (eq-eqb (length bs) session_bytes l, boun
 
 -- the ways of a push, and of an effect
 module _ (bs : List ℕ) (counter : Ticket) where
-  module _ (start : Slot) (slots : ℕ) (taken : Bool) (i j : ℕ) where
-    pub pushed_in_lem : can_push bs start slots i j ≡ true → pushed_in bs counter start slots taken i j ≡ pushed bs counter start slots taken i j
+  module _ (run : Run) (i j : ℕ) where
+    pub pushed_in_lem : can_push bs run i j ≡ true → pushed_in bs counter run i j ≡ pushed bs counter run i j
     unfolding pushed_in
     pushed_in_lem h = rw h
 
-    pub pushed_out : can_push bs start slots i j ≡ false → pushed_in bs counter start slots taken i j ≡ bs
+    pub pushed_out : can_push bs run i j ≡ false → pushed_in bs counter run i j ≡ bs
     unfolding pushed_in
     pushed_out h = rw h
 

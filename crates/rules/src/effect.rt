@@ -1,6 +1,17 @@
 // What an accepted operation does: a run of slots marked, one row changed, and for an SOS a second one.
+ghost use Rattle.std.specs.Prelude.{◌≡◌};
+ghost use Rattle.rules.specs.Effect.{mark_for, turned};
+
 use kinds::Slot;
 use trains::record::Train;
+
+// `slots` slots from `start` on, which are taken, or free.
+#[derive(Clone, Copy)]
+pub struct Run {
+    pub start: Slot,
+    pub slots: u32,
+    pub taken: bool,
+}
 
 // A row of the register, counted from 0, and what it becomes. `ROWS` is the number of no row: nothing changes.
 #[derive(Clone, Copy)]
@@ -9,12 +20,30 @@ pub struct Change {
     pub train: Train,
 }
 
-// `slots` slots from `start` on are taken, or freed; a row changes, and for an SOS also a second one.
+// A run is taken, or freed; a row changes, and for an SOS also a second one.
 #[derive(Clone, Copy)]
 pub struct Effect {
-    pub start: Slot,
-    pub slots: u32,
-    pub taken: bool,
+    pub run: Run,
     pub changed: Change,
     pub also: Change,
+}
+
+impl Run {
+    // The mark of each of its slots.
+    #[tactic(auto, unfolding(crate::specs::Effect::mark_for))]
+    pub fn mark(self) -> u32
+        ensures { result ≡ mark_for self.taken }
+    {
+        u32::from(self.taken)
+    }
+
+    // The same slots with the other mark.
+    pub fn turned(self) -> Run
+        ensures { result ≡ turned self }
+    {
+        Run {
+            taken: !self.taken,
+            ..self
+        }
+    }
 }

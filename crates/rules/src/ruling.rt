@@ -3,7 +3,7 @@ ghost use Rattle.std.specs.Prelude.{false, ◌≡◌};
 ghost use Rattle.rules.specs.Effect.{change, effect, row_and_run};
 ghost use Rattle.rules.specs.Ruling.{accepted_with, refused_with, ruling, refused, ruled};
 
-use crate::effect::{Change, Effect};
+use crate::effect::{Change, Effect, Run};
 use kinds::{Slot, Ticket};
 use trains::record::Train;
 use trains::sought::ROWS;
@@ -68,9 +68,11 @@ impl Ruling {
             answer,
             counter,
             effect: Effect {
-                start,
-                slots,
-                taken,
+                run: Run {
+                    start,
+                    slots,
+                    taken,
+                },
                 changed: Change { row, train },
                 also: Change {
                     row: also,
