@@ -9,7 +9,7 @@ use Rattle.numbers.specs.Numbers.{number_at}
 use Rattle.numbers.proofs.FieldLaws.{lt_or_le}
 use Rattle.rows.specs.Row.{row_bytes, row_at}
 use Rattle.rules.specs.Effect.{mark_for, no_change}
-use Rattle.store.specs.Layout.{book_at, log_at, row_offset, kept_row_bytes, entry_bytes, slots_at, changed_at, also_at, session_bytes}
+use Rattle.store.specs.Layout.{book_at, log_at, row_offset, kept_row_bytes, entry_bytes, changed_at, also_at, session_bytes}
 use Rattle.store.specs.Lent.{Lent}
 use Rattle.store.specs.Stands.{view_of}
 use Rattle.store.proofs.Frames.{Changes, lent_after}

@@ -1,5 +1,5 @@
 -- `ledger::back::step_back` meets its contract. The invariant: what is left to undo, undone, is all of it.
-use mathlib.Core.Path.{◌≡◌, sym, ap, ◌∙◌}
+use mathlib.Core.Path.{◌≡◌, sym, ◌∙◌}
 use Prim.Native.Nat.{ℕ, ◌+◌, ◌-◌}
 use borrow.Author.Tests.{eqb-true}
 use native.Mathlib.Omega.{arith}
