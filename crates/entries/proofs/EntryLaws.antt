@@ -197,7 +197,7 @@ module _ (s : List ℕ) (lent : Lent s) (e : Effect) (bounds : InBounds e) (at :
   unfolding with-also
   also-change = row_kept_changes with-changed lent_changed j (also_at at) hj (omega arith) (omega arith)
 
-  entry-is : entry_kept s e.run e.changed.row e.also.row at ≡ with-also
+  entry-is : entry_kept s e at ≡ with-also
   unfolding entry_kept with-also with-changed with-run i j
   entry-is = refl
 
@@ -207,7 +207,7 @@ module _ (s : List ℕ) (lent : Lent s) (e : Effect) (bounds : InBounds e) (at :
       (widen also-change (changed_at at) (kept_row_bytes + kept_row_bytes) (omega arith) (omega arith))
 
   -- only the entry's bytes change
-  pub entry_kept_changes : Changes s (entry_kept s e.run e.changed.row e.also.row at) at entry_bytes
+  pub entry_kept_changes : Changes s (entry_kept s e at) at entry_bytes
   entry_kept_changes =
       rw entry-is
       (next (widen run-change at entry_bytes (omega arith) (omega arith)) (widen rows-change at entry_bytes (omega arith) (omega arith)))
@@ -235,7 +235,7 @@ module _ (s : List ℕ) (lent : Lent s) (e : Effect) (bounds : InBounds e) (at :
   there k a b = number-stays rows-change 1 k (inl (omega arith))
 
   -- and they read as what was saved of the view
-  pub entry_kept-back : entry_at (entry_kept s e.run e.changed.row e.also.row at) at ≡ saved (view_of s) e
+  pub entry_kept-back : entry_at (entry_kept s e at) at ≡ saved (view_of s) e
   unfolding entry_at saved with-run i j
   entry_kept-back =
       let start = there at (omega arith) (omega arith) ∙ start-kept s lent (turned e.run) at (omega arith) bounds.start in

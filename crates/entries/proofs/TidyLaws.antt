@@ -10,6 +10,7 @@ use Rattle.numbers.proofs.FieldLaws.{lt_or_le}
 use Rattle.replay.specs.Demand3.{depth}
 use Rattle.rows.specs.Row.{row_bytes}
 use Rattle.rules.specs.Effect.{mark_for, turned, marked}
+use Rattle.rules.specs.declared.effect.Effect.{Effect}
 use Rattle.rules.specs.declared.effect.Run.{Run}
 use Rattle.store.specs.Layout.{book_at, log_at, row_offset, run_bytes, kept_row_bytes, entry_bytes, entry_offset, changed_at, also_at, session_bytes}
 use Rattle.store.specs.Lent.{Lent}
@@ -141,19 +142,19 @@ in_entries p q a at lo hi lo' hi' same =
     (lt_or_le q p)
 
 -- what undoes an effect kept in a notch of the ring
-pub entry_neat : (s : List ℕ) (run : Run) (i j p : ℕ) → i ≤ row_count → j ≤ row_count → p < depth → Neat s
-    → Neat (entry_kept s run i j (entry_offset p))
+pub entry_neat : (s : List ℕ) (effect : Effect) (p : ℕ) → effect.changed.row ≤ row_count → effect.also.row ≤ row_count → p < depth → Neat s
+    → Neat (entry_kept s effect (entry_offset p))
 unfolding entry_kept Kept
-entry_neat s run i j p hi hj l neat =
+entry_neat s effect p hi hj l neat =
     let e : ℕ = entry_offset p in
     let room : e + entry_bytes ≤ session_bytes = entry-room p l in
     let first = run_neat' in
     let second =
-    kept_neat (run_kept s (turned run) e) i (changed_at e) hi (omega arith) (omega arith)
+    kept_neat (run_kept s (turned effect.run) e) effect.changed.row (changed_at e) hi (omega arith) (omega arith)
     (λ q m. in_entries p q (changed_at (entry_offset q)) (changed_at e) (omega arith) (omega arith) (omega arith) (omega arith) (λ same. inl (ap (λ (n : ℕ). changed_at (entry_offset n)) same)))
     (λ q m. in_entries p q (also_at (entry_offset q)) (changed_at e) (omega arith) (omega arith) (omega arith) (omega arith) (λ same. inr (inr (omega arith))))
     (first.1.changed p l) first in
-    kept_neat (row_kept (run_kept s (turned run) e) i (changed_at e)) j (also_at e) hj (omega arith) (omega arith)
+    kept_neat (row_kept (run_kept s (turned effect.run) e) effect.changed.row (changed_at e)) effect.also.row (also_at e) hj (omega arith) (omega arith)
     (λ q m. in_entries p q (changed_at (entry_offset q)) (also_at e) (omega arith) (omega arith) (omega arith) (omega arith) (λ same. inr (inl (omega arith))))
     (λ q m. in_entries p q (also_at (entry_offset q)) (also_at e) (omega arith) (omega arith) (omega arith) (omega arith) (λ same. inl (ap (λ (n : ℕ). also_at (entry_offset n)) same)))
     (second.1.also p l) second
@@ -161,9 +162,9 @@ entry_neat s run i j p hi hj l neat =
     clear : (q a : ℕ) → entry_offset q + run_bytes ≤ a → a + row_bytes ≤ entry_offset q + entry_bytes → Clear a row_bytes (entry_offset p) run_bytes
     clear q a lo hi = ⊎_elim (λ l. inl (omega arith)) (λ l. inr (omega arith)) (lt_or_le q p)
 
-    run_neat' : Neat (run_kept s (turned run) (entry_offset p))
+    run_neat' : Neat (run_kept s (turned effect.run) (entry_offset p))
     run_neat' =
-        let r = run_kept_changes s neat.0 (turned run) (entry_offset p) in (
+        let r = run_kept_changes s neat.0 (turned effect.run) (entry_offset p) in (
           lent_after neat.0 r,
           tidy-after neat.0 r neat.1
               (λ j l. inl (inl (omega arith)))

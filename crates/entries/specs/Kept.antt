@@ -9,13 +9,9 @@ use Rattle.entries.specs.{Copied.row_copied, Entry.has_entry}
 
 -- ---- effects that an entry can undo
 
--- an entry can keep a run and rows i and j
-abbrev pub can_keep : Run → ℕ → ℕ → Bool
-can_keep run i j = ((ltb i row_count && leb j row_count) && ltb run.start.0 256) && ltb run.slots 256
-
--- an entry can keep what undoes an effect
+-- an entry can keep what undoes an effect: one row changes, and another or none, and the run's start and slots are bytes
 abbrev pub in_bounds : Effect → Bool
-in_bounds e = can_keep e.run e.changed.row e.also.row
+in_bounds e = ((ltb e.changed.row row_count && leb e.also.row row_count) && ltb e.run.start.0 256) && ltb e.run.slots 256
 
 -- ---- the entry kept
 
@@ -28,10 +24,10 @@ run_kept bs run at =
 unfoldable pub row_kept : List ℕ → ℕ → ℕ → List ℕ
 row_kept bs i at = row_copied (put_number 1 bs at i) i (row_offset i) (at + 1)
 
--- what undoes an effect that marks a run and changes rows i and j: the run marked the other way, and the rows as they are
-unfoldable pub entry_kept : List ℕ → Run → ℕ → ℕ → ℕ → List ℕ
-entry_kept bs run i j at = row_kept (row_kept (run_kept bs (turned run) at) i (changed_at at)) j (also_at at)
+-- what undoes an effect: its run marked the other way, and the rows that it changes as they are
+unfoldable pub entry_kept : List ℕ → Effect → ℕ → List ℕ
+entry_kept bs e at = row_kept (row_kept (run_kept bs (turned e.run) at) e.changed.row (changed_at at)) e.also.row (also_at at)
 
 -- and where it cannot be kept, the bytes as they were
-unfoldable pub kept_in : List ℕ → Run → ℕ → ℕ → ℕ → List ℕ
-kept_in bs run i j at = cond (has_entry bs at && can_keep run i j) (entry_kept bs run i j at) bs
+unfoldable pub kept_in : List ℕ → Effect → ℕ → List ℕ
+kept_in bs e at = cond (has_entry bs at && in_bounds e) (entry_kept bs e at) bs

@@ -32,7 +32,7 @@ fn copy_row(s: &mut [u8], i: u32, from: usize, to: usize)
     ensures { s.new ≡ row_copied s.old i from to }
 {
     if (i as usize) < ROWS {
-        let mut kept: [u8; row::ROW] = [0; row::ROW];
+        let mut kept = [0_u8; row::ROW];
         numbers::copy(s, from, row::ROW, &mut kept, 0);
         numbers::copy(&kept, 0, row::ROW, s, to);
     }

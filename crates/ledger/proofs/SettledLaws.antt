@@ -69,7 +69,7 @@ written s c lent f =
 
 module _ (s : List ℕ) (lent : Lent s) (counter : Ticket) (e : Effect) (bounds : InBounds e) where
   logged : List ℕ
-  logged = pushed s counter e.run e.changed.row e.also.row
+  logged = pushed s counter e
 
   p : ℕ
   p = head_of s
@@ -79,7 +79,7 @@ module _ (s : List ℕ) (lent : Lent s) (counter : Ticket) (e : Effect) (bounds 
   p_in = head_in s
 
   noted : List ℕ
-  noted = entry_kept s e.run e.changed.row e.also.row (entry_offset p)
+  noted = entry_kept s e (entry_offset p)
 
   noted_change : Changes s noted (entry_offset p) entry_bytes
   unfolding noted

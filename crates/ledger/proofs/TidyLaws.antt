@@ -53,7 +53,7 @@ settled-tidy s lent counter e fits tidy =
     (change_neat _ e.changed (λ l. fits.changed)
     (run_neat _ e.run
     (header_neat _ counter _ _
-    (entry_neat s e.run e.changed.row e.also.row (head_of s) (omega (arith, fits.bounds.changed)) fits.bounds.also (head_in s) (lent, tidy)))))).1
+    (entry_neat s e (head_of s) (omega (arith, fits.bounds.changed)) fits.bounds.also (head_in s) (lent, tidy)))))).1
 
 stepped_neat : (s : List ℕ) → Neat s → Neat (stepped s)
 unfolding stepped

@@ -5,18 +5,18 @@ ghost use Rattle.ledger.specs.Settled.{can_push, pushed_in, change_put, settled_
 use entries::{kept, marks};
 use kinds::Ticket;
 use rows::row;
-use rules::effect::{Change, Effect, Run};
+use rules::effect::{Change, Effect};
 use store::{layout, view};
 use trains::sought::ROWS;
 
-// What undoes an effect on a run and rows i and j pushed, and the counter set, where that can be; and whether it was.
+// What undoes an effect pushed, and the counter set, where that can be; and whether it was.
 #[tactic(auto, using(crate::proofs::BoundsLaws::notch_entry, store::proofs::ViewLaws::head_in, ring::proofs::Rings::after_in), unfolding(replay::specs::Demand3::depth, crate::specs::Settled::pushed_in, crate::specs::Settled::pushed, entries::specs::Kept::kept_in))]
-fn push(s: &mut [u8], counter: Ticket, run: Run, i: usize, j: usize) -> bool
-    ensures { (result ≡ can_push s.old run i j) × (s.new ≡ pushed_in s.old counter run i j) }
+fn push(s: &mut [u8], counter: Ticket, effect: &Effect) -> bool
+    ensures { (result ≡ can_push s.old effect.now) × (s.new ≡ pushed_in s.old counter effect.now) }
 {
     let head = view::head(s);
     let kept = ring::kept_after(view::kept(s));
-    if !kept::keep(s, run, i, j, crate::entry_offset(head)) {
+    if !kept::keep(s, effect, crate::entry_offset(head)) {
         return false;
     }
     crate::put_header(s, counter, kept, ring::notch_after(head));
@@ -38,7 +38,7 @@ fn put_change(s: &mut [u8], change: Change)
 pub fn settle(s: &mut [u8], counter: Ticket, effect: Effect)
     ensures { s.new ≡ settled_in s.old counter effect }
 {
-    if push(s, counter, effect.run, effect.changed.row, effect.also.row) {
+    if push(s, counter, &effect) {
         marks::mark_run(s, effect.run);
         put_change(s, effect.changed);
         put_change(s, effect.also);
