@@ -14,6 +14,7 @@ pub struct Run {
 }
 
 // A row of the register, counted from 0, and what it becomes. `ROWS` is the number of no row: nothing changes.
+// No Option in an effect: `applied` and `settle` take any row, and a log's entry has a byte for it, so the tests of the number would stay beside it.
 #[derive(Clone, Copy)]
 pub struct Change {
     pub row: usize,
