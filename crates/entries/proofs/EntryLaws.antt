@@ -11,9 +11,10 @@ use lib.ListN.{length}
 use Rattle.numbers.specs.Numbers.{number_at, put_number}
 use Rattle.numbers.proofs.FieldLaws.{lt_or_le}
 use Rattle.rows.specs.Row.{row_bytes, row_at}
-use Rattle.rules.specs.Effect.{mark_for, change, no_change}
+use Rattle.rules.specs.Effect.{mark_for, turned, change, no_change}
 use Rattle.rules.specs.View.{View, row_in}
 use Rattle.rules.specs.declared.effect.Effect.{Effect}
+use Rattle.rules.specs.declared.effect.Run.{Run}
 use Rattle.store.specs.Layout.{log_at, row_offset, run_bytes, kept_row_bytes, entry_bytes, slots_at, mark_at, changed_at, also_at, session_bytes}
 use Rattle.store.specs.Lent.{Lent}
 use Rattle.store.specs.Stands.{view_of}
@@ -21,7 +22,6 @@ use Rattle.store.proofs.Frames.{Clear, Changes, unchanged, widen, next, number_c
 use Rattle.store.proofs.RegisterLaws.{view-stays}
 use Rattle.store.proofs.ViewLaws.{view-row, view_row_past}
 use Rattle.trains.specs.Sought.{row_count}
-use Rattle.kinds.specs.declared.Slot.{Slot}
 use Rattle.entries.specs.Copied.{row_copied}
 use Rattle.entries.specs.Entry.{row_now, saved, taken_at, change_at, entry_at}
 use Rattle.entries.specs.Kept.{run_kept, row_kept, entry_kept}
@@ -55,7 +55,7 @@ module _ {s t : List ℕ} {at n : ℕ} (r : Changes s t at n) where
       let mark = run-stays e (mark_at e) run (omega arith) (omega arith) in
       let changed = change-stays (changed_at e) (⊎_elim (λ a. inl (omega arith)) (λ a. inr (omega arith)) h) in
       let also = change-stays (also_at e) (⊎_elim (λ a. inl (omega arith)) (λ a. inr (omega arith)) h) in
-      λ k. record { start = record { 0 = start k }; slots = slots k; taken = not (eqb (mark k) 0); changed = changed k; also = also k }
+      λ k. record { run = record { start = record { 0 = start k }; slots = slots k; taken = not (eqb (mark k) 0) }; changed = changed k; also = also k }
 
 -- ---- a row kept
 
@@ -125,33 +125,33 @@ unfolding mark_for
 mark_tells true = refl
 mark_tells false = refl
 
-module _ (s : List ℕ) (lent : Lent s) (start : Slot) (slots : ℕ) (taken : Bool) (at : ℕ) where
-  run_is : run_kept s start slots taken at ≡ three_put 1 s at (slots_at at) (mark_at at) start.0 slots (mark_for taken)
+module _ (s : List ℕ) (lent : Lent s) (run : Run) (at : ℕ) where
+  run_is : run_kept s run at ≡ three_put 1 s at (slots_at at) (mark_at at) run.start.0 run.slots (mark_for run.taken)
   unfolding run_kept three_put
   run_is = refl
 
   -- only those bytes change
-  pub run_kept_changes : Changes s (run_kept s start slots taken at) at run_bytes
-  run_kept_changes = rw run_is (three_changes 1 s lent.bytes at (slots_at at) (mark_at at) start.0 slots (mark_for taken) refl (omega arith))
+  pub run_kept_changes : Changes s (run_kept s run at) at run_bytes
+  run_kept_changes = rw run_is (three_changes 1 s lent.bytes at (slots_at at) (mark_at at) run.start.0 run.slots (mark_for run.taken) refl (omega arith))
 
   -- and they read as the run
   module _ (room : at + run_bytes ≤ session_bytes) where
-    start-kept : start.0 < 256 → number_at 1 (run_kept s start slots taken at) at ≡ start.0
+    start-kept : run.start.0 < 256 → number_at 1 (run_kept s run at) at ≡ run.start.0
     start-kept l =
         rw run_is
-        (first_back 1 s lent.bytes at (slots_at at) (mark_at at) start.0 slots (mark_for taken) refl (omega arith) (omega (arith, lent.size)) l)
+        (first_back 1 s lent.bytes at (slots_at at) (mark_at at) run.start.0 run.slots (mark_for run.taken) refl (omega arith) (omega (arith, lent.size)) l)
 
-    slots_kept : slots < 256 → number_at 1 (run_kept s start slots taken at) (slots_at at) ≡ slots
+    slots_kept : run.slots < 256 → number_at 1 (run_kept s run at) (slots_at at) ≡ run.slots
     slots_kept l =
         rw run_is
-        (second_back 1 s lent.bytes at (slots_at at) (mark_at at) start.0 slots (mark_for taken) refl (omega arith) (omega (arith, lent.size)) l)
+        (second_back 1 s lent.bytes at (slots_at at) (mark_at at) run.start.0 run.slots (mark_for run.taken) refl (omega arith) (omega (arith, lent.size)) l)
 
-    taken-kept : taken_at (run_kept s start slots taken at) at ≡ taken
+    taken-kept : taken_at (run_kept s run at) at ≡ run.taken
     taken-kept =
-        let mark : number_at 1 (run_kept s start slots taken at) (mark_at at) ≡ mark_for taken =
+        let mark : number_at 1 (run_kept s run at) (mark_at at) ≡ mark_for run.taken =
         rw run_is
-        (third_back 1 s lent.bytes at (slots_at at) (mark_at at) start.0 slots (mark_for taken) refl (omega arith) (omega (arith, lent.size)) (omega (arith, mark-small taken))) in
-        ap (λ (n : ℕ). not (eqb n 0)) mark ∙ mark_tells taken
+        (third_back 1 s lent.bytes at (slots_at at) (mark_at at) run.start.0 run.slots (mark_for run.taken) refl (omega arith) (omega (arith, lent.size)) (omega (arith, mark-small run.taken))) in
+        ap (λ (n : ℕ). not (eqb n 0)) mark ∙ mark_tells run.taken
 
 -- ---- an entry kept
 
@@ -163,7 +163,7 @@ module _ (s : List ℕ) (lent : Lent s) (e : Effect) (bounds : InBounds e) (at :
   j = e.also.row
 
   with-run : List ℕ
-  with-run = run_kept s e.start e.slots (not e.taken) at
+  with-run = run_kept s (turned e.run) at
 
   with-changed : List ℕ
   with-changed = row_kept with-run i (changed_at at)
@@ -173,7 +173,7 @@ module _ (s : List ℕ) (lent : Lent s) (e : Effect) (bounds : InBounds e) (at :
 
   run-change : Changes s with-run at run_bytes
   unfolding with-run
-  run-change = run_kept_changes s lent e.start e.slots (not e.taken) at
+  run-change = run_kept_changes s lent (turned e.run) at
 
   lent_run : Lent with-run
   lent_run = lent_after lent run-change
@@ -197,7 +197,7 @@ module _ (s : List ℕ) (lent : Lent s) (e : Effect) (bounds : InBounds e) (at :
   unfolding with-also
   also-change = row_kept_changes with-changed lent_changed j (also_at at) hj (omega arith) (omega arith)
 
-  entry-is : entry_kept s e.start e.slots e.taken e.changed.row e.also.row at ≡ with-also
+  entry-is : entry_kept s e at ≡ with-also
   unfolding entry_kept with-also with-changed with-run i j
   entry-is = refl
 
@@ -207,7 +207,7 @@ module _ (s : List ℕ) (lent : Lent s) (e : Effect) (bounds : InBounds e) (at :
       (widen also-change (changed_at at) (kept_row_bytes + kept_row_bytes) (omega arith) (omega arith))
 
   -- only the entry's bytes change
-  pub entry_kept_changes : Changes s (entry_kept s e.start e.slots e.taken e.changed.row e.also.row at) at entry_bytes
+  pub entry_kept_changes : Changes s (entry_kept s e at) at entry_bytes
   entry_kept_changes =
       rw entry-is
       (next (widen run-change at entry_bytes (omega arith) (omega arith)) (widen rows-change at entry_bytes (omega arith) (omega arith)))
@@ -235,13 +235,13 @@ module _ (s : List ℕ) (lent : Lent s) (e : Effect) (bounds : InBounds e) (at :
   there k a b = number-stays rows-change 1 k (inl (omega arith))
 
   -- and they read as what was saved of the view
-  pub entry_kept-back : entry_at (entry_kept s e.start e.slots e.taken e.changed.row e.also.row at) at ≡ saved (view_of s) e
+  pub entry_kept-back : entry_at (entry_kept s e at) at ≡ saved (view_of s) e
   unfolding entry_at saved with-run i j
   entry_kept-back =
-      let start = there at (omega arith) (omega arith) ∙ start-kept s lent e.start e.slots (not e.taken) at (omega arith) bounds.start in
-      let slots = there (slots_at at) (omega arith) (omega arith) ∙ slots_kept s lent e.start e.slots (not e.taken) at (omega arith) bounds.slots in
+      let start = there at (omega arith) (omega arith) ∙ start-kept s lent (turned e.run) at (omega arith) bounds.start in
+      let slots = there (slots_at at) (omega arith) (omega arith) ∙ slots_kept s lent (turned e.run) at (omega arith) bounds.slots in
       let taken =
       ap (λ (n : ℕ). not (eqb n 0)) (there (mark_at at) (omega arith) (omega arith))
-      ∙ taken-kept s lent e.start e.slots (not e.taken) at (omega arith) in
+      ∙ taken-kept s lent (turned e.run) at (omega arith) in
       rw entry-is
-      (λ k. record { start = record { 0 = start k }; slots = slots k; taken = taken k; changed = changed-kept k; also = also_kept k })
+      (λ k. record { run = record { start = record { 0 = start k }; slots = slots k; taken = taken k }; changed = changed-kept k; also = also_kept k })

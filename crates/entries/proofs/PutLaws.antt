@@ -52,25 +52,25 @@ row_unput s c lent l = record {
 
 module _ (s : List ℕ) (lent : Lent s) (e : Effect) where
   booked : List ℕ
-  booked = run_marked s e.start e.slots e.taken
+  booked = run_marked s e.run
 
   book-change : Changes s booked book_at last_slot
   unfolding booked
-  book-change = slots_changes s e.start.0 e.slots (mark_for e.taken) lent.bytes
+  book-change = slots_changes s e.run.start.0 e.run.slots (mark_for e.run.taken) lent.bytes
 
-  pub lent_booked : Lent (run_marked s e.start e.slots e.taken)
+  pub lent_booked : Lent (run_marked s e.run)
   unfolding booked
   lent_booked = lent_after lent book-change
 
-  booked_view : view_of booked ≡ record { rows = (view_of s).rows; book = marked (view_of s).book e.start.0 e.slots (mark_for e.taken) }
+  booked_view : view_of booked ≡ record { rows = (view_of s).rows; book = marked (view_of s).book e.run.start.0 e.run.slots (mark_for e.run.taken) }
   unfolding booked
   booked_view =
-      view-by booked (view_of s).rows (marked (view_of s).book e.start.0 e.slots (mark_for e.taken))
+      view-by booked (view_of s).rows (marked (view_of s).book e.run.start.0 e.run.slots (mark_for e.run.taken))
       (rows_stay book-change (inr (omega arith)))
-      (slots-book s e.start.0 e.slots (mark_for e.taken) lent.bytes (omega (arith, lent.size)) (omega (arith, mark-small e.taken))
-      ∙ ap (λ (b : List ℕ). marked b e.start.0 e.slots (mark_for e.taken)) (sym (view-book s)))
+      (slots-book s e.run.start.0 e.run.slots (mark_for e.run.taken) lent.bytes (omega (arith, lent.size)) (omega (arith, mark-small e.run.taken))
+      ∙ ap (λ (b : List ℕ). marked b e.run.start.0 e.run.slots (mark_for e.run.taken)) (sym (view-book s)))
 
-  module _ {t u : List ℕ} (one : RowPut (run_marked s e.start e.slots e.taken) t e.changed) (two : RowPut t u e.also) where
+  module _ {t u : List ℕ} (one : RowPut (run_marked s e.run) t e.changed) (two : RowPut t u e.also) where
     -- only the book and the register change
     pub put_changes : Changes s u book_at (last_slot + row_bytes * row_count)
     unfolding booked

@@ -89,6 +89,6 @@ unfolding saved applied
 undo_save v e size holds =
     let rows = rows_back v.rows e.changed.row e.also.row e.changed.train e.also.train in
     let book =
-    run-back v.book e.start.0 e.slots (mark_for e.taken) (mark_for (not e.taken)) size
+    run-back v.book e.run.start.0 e.run.slots (mark_for e.run.taken) (mark_for (not e.run.taken)) size
     (λ k l a b. holds (record { 0 = suc k }) (in_book k l) a b) in
     λ k. record { rows = rows k; book = book k }

@@ -1,6 +1,5 @@
 -- What is put in a session, kept of it and undone leaves its bytes tidy.
 use Prim.Native.Nat.{ℕ, ◌+◌, ◌≤◌, ◌<◌}
-use mathlib.Core.Bool.{Bool, not}
 use mathlib.Core.List.{List}
 use mathlib.Core.Logic.{⊎_elim, ◌⊎◌, inl, inr}
 use mathlib.Core.Path.{◌≡◌, sym, ap, ◌∙◌}
@@ -10,7 +9,9 @@ use Rattle.numbers.specs.Numbers.{number_at, put_number}
 use Rattle.numbers.proofs.FieldLaws.{lt_or_le}
 use Rattle.replay.specs.Demand3.{depth}
 use Rattle.rows.specs.Row.{row_bytes}
-use Rattle.rules.specs.Effect.{mark_for, marked}
+use Rattle.rules.specs.Effect.{mark_for, turned, marked}
+use Rattle.rules.specs.declared.effect.Effect.{Effect}
+use Rattle.rules.specs.declared.effect.Run.{Run}
 use Rattle.store.specs.Layout.{book_at, log_at, row_offset, run_bytes, kept_row_bytes, entry_bytes, entry_offset, changed_at, also_at, session_bytes}
 use Rattle.store.specs.Lent.{Lent}
 use Rattle.store.specs.Stands.{book_of}
@@ -22,7 +23,6 @@ use Rattle.store.proofs.TidyLaws.{tidy-same, tidy-stays, tidy-after}
 use Rattle.store.proofs.ViewLaws.{entry-room}
 use Rattle.kinds.specs.Kinds.{last_slot}
 use Rattle.trains.specs.Sought.{row_count}
-use Rattle.kinds.specs.declared.Slot.{Slot}
 use Rattle.entries.specs.Copied.{row_copied}
 use Rattle.entries.specs.Kept.{run_kept, row_kept, entry_kept}
 use Rattle.entries.specs.Marks.{slots_put, run_marked}
@@ -44,18 +44,18 @@ marks-small s lent tidy k =
     (λ l. rw (get_or-eq_default (book_of s) 0 {n = k} (omega (arith, length-book s (omega (arith, lent.size))))) (omega arith))
     (lt_or_le k last_slot)
 
-pub run_neat : (s : List ℕ) (start : Slot) (slots : ℕ) (taken : Bool) → Neat s → Neat (run_marked s start slots taken)
-run_neat s start slots taken (lent, tidy) =
-    let mark : ℕ = mark_for taken in
-    let t : List ℕ = slots_put s start.0 slots mark in
-    let r = slots_changes s start.0 slots mark lent.bytes in
+pub run_neat : (s : List ℕ) (run : Run) → Neat s → Neat (run_marked s run)
+run_neat s run (lent, tidy) =
+    let mark : ℕ = mark_for run.taken in
+    let t : List ℕ = slots_put s run.start.0 run.slots mark in
+    let r = slots_changes s run.start.0 run.slots mark lent.bytes in
     let small : (i : ℕ) → i < last_slot → get_or t (book_at + i) 0 ≤ 1 =
     λ i l.
-    let below : get_or (marked (book_of s) start.0 slots mark) i 0 < 2 =
-    marked_below 2 (book_of s) start.0 slots mark (marks-small s lent tidy) (mark-small taken) i in
+    let below : get_or (marked (book_of s) run.start.0 run.slots mark) i 0 < 2 =
+    marked_below 2 (book_of s) run.start.0 run.slots mark (marks-small s lent tidy) (mark-small run.taken) i in
     rw
     (sym (stretch_at t last_slot book_at i l)
-    ∙ ap (λ (b : List ℕ). get_or b i 0) (slots-book s start.0 slots mark lent.bytes (omega (arith, lent.size)) (omega (arith, mark-small taken))))
+    ∙ ap (λ (b : List ℕ). get_or b i 0) (slots-book s run.start.0 run.slots mark lent.bytes (omega (arith, lent.size)) (omega (arith, mark-small run.taken))))
     (omega arith) in (
       lent_after lent r,
       tidy-after lent r tidy (λ i l. inl (inr (omega arith))) (λ p l. inl (inr (omega arith))) (λ p l. inl (inr (omega arith))) (λ i l. inr (small i l)),
@@ -142,19 +142,19 @@ in_entries p q a at lo hi lo' hi' same =
     (lt_or_le q p)
 
 -- what undoes an effect kept in a notch of the ring
-pub entry_neat : (s : List ℕ) (start : Slot) (slots : ℕ) (taken : Bool) (i j p : ℕ) → i ≤ row_count → j ≤ row_count → p < depth → Neat s
-    → Neat (entry_kept s start slots taken i j (entry_offset p))
+pub entry_neat : (s : List ℕ) (effect : Effect) (p : ℕ) → effect.changed.row ≤ row_count → effect.also.row ≤ row_count → p < depth → Neat s
+    → Neat (entry_kept s effect (entry_offset p))
 unfolding entry_kept Kept
-entry_neat s start slots taken i j p hi hj l neat =
+entry_neat s effect p hi hj l neat =
     let e : ℕ = entry_offset p in
     let room : e + entry_bytes ≤ session_bytes = entry-room p l in
     let first = run_neat' in
     let second =
-    kept_neat (run_kept s start slots (not taken) e) i (changed_at e) hi (omega arith) (omega arith)
+    kept_neat (run_kept s (turned effect.run) e) effect.changed.row (changed_at e) hi (omega arith) (omega arith)
     (λ q m. in_entries p q (changed_at (entry_offset q)) (changed_at e) (omega arith) (omega arith) (omega arith) (omega arith) (λ same. inl (ap (λ (n : ℕ). changed_at (entry_offset n)) same)))
     (λ q m. in_entries p q (also_at (entry_offset q)) (changed_at e) (omega arith) (omega arith) (omega arith) (omega arith) (λ same. inr (inr (omega arith))))
     (first.1.changed p l) first in
-    kept_neat (row_kept (run_kept s start slots (not taken) e) i (changed_at e)) j (also_at e) hj (omega arith) (omega arith)
+    kept_neat (row_kept (run_kept s (turned effect.run) e) effect.changed.row (changed_at e)) effect.also.row (also_at e) hj (omega arith) (omega arith)
     (λ q m. in_entries p q (changed_at (entry_offset q)) (also_at e) (omega arith) (omega arith) (omega arith) (omega arith) (λ same. inr (inl (omega arith))))
     (λ q m. in_entries p q (also_at (entry_offset q)) (also_at e) (omega arith) (omega arith) (omega arith) (omega arith) (λ same. inl (ap (λ (n : ℕ). also_at (entry_offset n)) same)))
     (second.1.also p l) second
@@ -162,9 +162,9 @@ entry_neat s start slots taken i j p hi hj l neat =
     clear : (q a : ℕ) → entry_offset q + run_bytes ≤ a → a + row_bytes ≤ entry_offset q + entry_bytes → Clear a row_bytes (entry_offset p) run_bytes
     clear q a lo hi = ⊎_elim (λ l. inl (omega arith)) (λ l. inr (omega arith)) (lt_or_le q p)
 
-    run_neat' : Neat (run_kept s start slots (not taken) (entry_offset p))
+    run_neat' : Neat (run_kept s (turned effect.run) (entry_offset p))
     run_neat' =
-        let r = run_kept_changes s neat.0 start slots (not taken) (entry_offset p) in (
+        let r = run_kept_changes s neat.0 (turned effect.run) (entry_offset p) in (
           lent_after neat.0 r,
           tidy-after neat.0 r neat.1
               (λ j l. inl (inl (omega arith)))
@@ -179,6 +179,6 @@ unfolding entry_back run_back
 back_neat s p l neat =
     let e : ℕ = entry_offset p in
     let room : e + entry_bytes ≤ session_bytes = entry-room p l in
-    let run = run_neat s _ _ _ neat in
+    let run = run_neat s _ neat in
     let row = row_back_neat (run_back s e) (changed_at e) (omega arith) (omega arith) (run.1.changed p l) run in
     row_back_neat (row_back (run_back s e) (changed_at e)) (also_at e) (omega arith) (omega arith) (row.1.also p l) row

@@ -9,13 +9,13 @@ use Rattle.numbers.specs.Numbers.{number_at}
 use Rattle.numbers.proofs.FieldLaws.{lt_or_le}
 use Rattle.rows.specs.Row.{row_bytes, row_at}
 use Rattle.rules.specs.Effect.{mark_for, no_change}
-use Rattle.store.specs.Layout.{book_at, log_at, row_offset, kept_row_bytes, entry_bytes, slots_at, changed_at, also_at, session_bytes}
+use Rattle.store.specs.Layout.{book_at, log_at, row_offset, kept_row_bytes, entry_bytes, changed_at, also_at, session_bytes}
 use Rattle.store.specs.Lent.{Lent}
 use Rattle.store.specs.Stands.{view_of}
 use Rattle.store.proofs.Frames.{Changes, lent_after}
 use Rattle.kinds.specs.Kinds.{last_slot}
 use Rattle.trains.specs.Sought.{row_count}
-use Rattle.entries.specs.Entry.{undone, taken_at, change_at, entry_at}
+use Rattle.entries.specs.Entry.{undone, run_at, change_at, entry_at}
 use Rattle.entries.specs.Undone.{run_back, row_back, entry_back}
 use Rattle.entries.proofs.CopyLaws.{copied_changes, copied-row, row_copied_lem, row-passed}
 use Rattle.entries.proofs.EntryLaws.{change-stays, change-there, change-none}
@@ -42,7 +42,7 @@ module _ (s : List ℕ) (lent : Lent s) (at : ℕ) (lo : log_at ≤ at) (room : 
 
   run-change : Changes s run book_at last_slot
   unfolding run run_back
-  run-change = slots_changes s (number_at 1 s at) (number_at 1 s (slots_at at)) (mark_for (taken_at s at)) lent.bytes
+  run-change = slots_changes s (run_at s at).start.0 (run_at s at).slots (mark_for (run_at s at).taken) lent.bytes
 
   lent_run : Lent run
   lent_run = lent_after lent run-change

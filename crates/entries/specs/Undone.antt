@@ -2,12 +2,12 @@
 use mathlib.Core.{Bool.cond, List.List}
 use Rattle.std.specs.Prelude.{ℕ, ◌+◌}
 use Rattle.numbers.specs.Numbers.{number_at}
-use Rattle.store.specs.Layout.{row_offset, slots_at, changed_at, also_at}
-use Rattle.entries.specs.{Copied.row_copied, Entry.has_entry, Entry.taken_at, Marks.run_marked}
+use Rattle.store.specs.Layout.{row_offset, changed_at, also_at}
+use Rattle.entries.specs.{Copied.row_copied, Entry.has_entry, Entry.run_at, Marks.run_marked}
 
 -- the run of the entry that starts at a byte marked as it was
 unfoldable pub run_back : List ℕ → ℕ → List ℕ
-run_back bs at = run_marked bs (record { 0 = number_at 1 bs at }) (number_at 1 bs (slots_at at)) (taken_at bs at)
+run_back bs at = run_marked bs (run_at bs at)
 
 -- the row that is kept from a byte on put back; a number that is none of the register's restores nothing
 unfoldable pub row_back : List ℕ → ℕ → List ℕ

@@ -3,30 +3,33 @@ ghost use Rattle.std.specs.Prelude.{◌≡◌, ◌+◌, ◌≤◌, length, ◌&&
 ghost use Rattle.trains.specs.Sought.{row_count};
 ghost use Rattle.store.specs.Layout.{session_bytes, entry_bytes, kept_row_bytes};
 ghost use Rattle.entries.specs.Entry.{has_entry};
-ghost use Rattle.entries.specs.Kept.{can_keep, run_kept, row_kept, kept_in};
+ghost use Rattle.entries.specs.Kept.{in_bounds, run_kept, row_kept, kept_in};
 
-use kinds::Slot;
+use rules::effect::{Effect, Run};
 use store::layout;
 use trains::sought::ROWS;
 
-// An entry can keep a run and rows i and j: row i is the register's, row j too or none, and the run's start and slots are bytes.
-fn can_keep(start: Slot, slots: u32, i: usize, j: usize) -> bool
-    ensures { result ≡ can_keep start slots i j }
+// Can an entry keep what undoes an effect? One row changes, and another or none, and the run's start and slots are bytes.
+fn in_bounds(effect: &Effect) -> bool
+    ensures { result ≡ in_bounds effect.now }
 {
-    (i < ROWS) & (j <= ROWS) & (start.0 < 256) & (slots < 256)
+    let run = effect.run;
+    effect.changed.row < ROWS && effect.also.row <= ROWS && run.start.0 < 256 && run.slots < 256
 }
 
 // A run and its mark kept in the entry that starts at a byte.
-fn keep_run(s: &mut [u8], start: Slot, slots: u32, taken: bool, at: usize)
-    requires { (length s.old ≡ session_bytes) × (at + entry_bytes ≤ session_bytes) }
-    ensures { s.new ≡ run_kept s.old start slots taken at }
+#[tactic(auto, unfolding(replay::specs::Demand3::depth, crate::specs::Kept::run_kept))]
+fn keep_run(s: &mut [u8], run: Run, at: usize)
+    requires { at + entry_bytes ≤ session_bytes }
+    ensures { s.new ≡ run_kept s.old run at }
 {
-    numbers::put_byte(s, at, start.0);
-    numbers::put_byte(s, at + layout::RUN_SLOTS, slots);
-    numbers::put_byte(s, at + layout::RUN_MARK, numbers::one_if(taken));
+    numbers::put_byte(s, at, run.start.0);
+    numbers::put_byte(s, at + layout::RUN_SLOTS, run.slots);
+    numbers::put_byte(s, at + layout::RUN_MARK, run.mark());
 }
 
 // A row's number kept from a byte on, and behind it the row. Of no row only the number is kept.
+#[tactic(auto, unfolding(replay::specs::Demand3::depth, crate::specs::Kept::row_kept))]
 fn keep_row(s: &mut [u8], i: usize, at: usize)
     requires { (length s.old ≡ session_bytes) × (i ≤ row_count) × (at + kept_row_bytes ≤ session_bytes) }
     ensures { s.new ≡ row_kept s.old i at }
@@ -36,24 +39,17 @@ fn keep_row(s: &mut [u8], i: usize, at: usize)
     crate::copy_row(s, number, layout::row_offset(number), at + 1);
 }
 
-// A run that is to be marked taken, or free, and rows i and j, kept as they are in the entry that starts at a byte, where they can be; and
-// whether they were.
-pub fn keep(
-    s: &mut [u8],
-    start: Slot,
-    slots: u32,
-    taken: bool,
-    i: usize,
-    j: usize,
-    at: usize,
-) -> bool
-    ensures { (result ≡ (has_entry s.old at && can_keep start slots i j)) × (s.new ≡ kept_in s.old start slots taken i j at) }
+// What undoes an effect, kept before it in the entry that starts at a byte, where it can be: the run with its mark before, and the rows as they
+// are; and whether it was.
+#[tactic(auto, unfolding(replay::specs::Demand3::depth, crate::specs::Kept::kept_in, crate::specs::Kept::entry_kept))]
+pub fn keep(s: &mut [u8], effect: &Effect, at: usize) -> bool
+    ensures { (result ≡ (has_entry s.old at && in_bounds effect.now)) × (s.new ≡ kept_in s.old effect.now at) }
 {
-    if !(crate::has_entry(s, at) & can_keep(start, slots, i, j)) {
+    if !(crate::has_entry(s, at) && in_bounds(effect)) {
         return false;
     }
-    keep_run(s, start, slots, !taken, at);
-    keep_row(s, i, at + layout::CHANGED);
-    keep_row(s, j, at + layout::ALSO);
+    keep_run(s, effect.run.turned(), at);
+    keep_row(s, effect.changed.row, at + layout::CHANGED);
+    keep_row(s, effect.also.row, at + layout::ALSO);
     true
 }

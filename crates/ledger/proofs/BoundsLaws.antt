@@ -10,13 +10,12 @@ use Rattle.rules.specs.declared.effect.Effect.{Effect}
 use Rattle.replay.specs.Demand3.{depth}
 use Rattle.store.specs.Layout.{is_session, entry_bytes, entry_offset, session_bytes}
 use Rattle.store.proofs.ViewLaws.{entry-room}
-use Rattle.kinds.specs.declared.Slot.{Slot}
 use Rattle.kinds.specs.declared.Ticket.{Ticket}
 use Rattle.entries.specs.Entry.{has_entry}
 use Rattle.entries.specs.Kept.{in_bounds}
 use Rattle.entries.proofs.BoundsLaws.{InBounds}
 use Rattle.ledger.specs.Back.{stepped_by, stepped_in}
-use Rattle.ledger.specs.Settled.{can_push, pushed, pushed_in, settled, settled_in}
+use Rattle.ledger.specs.Settled.{settled, settled_in}
 
 bounds_hold : (e : Effect) → InBounds e → in_bounds e ≡ true
 bounds_hold e h = simp (lt-ltb _ _ h.changed, le-leb _ _ h.also, lt-ltb _ _ h.start, lt-ltb _ _ h.slots)
@@ -25,25 +24,6 @@ bounds_hold e h = simp (lt-ltb _ _ h.changed, le-leb _ _ h.also, lt-ltb _ _ h.st
 pub settled_in_lem : (bs : List ℕ) (counter : Ticket) (e : Effect) → length bs ≡ session_bytes → InBounds e → settled_in bs counter e ≡ settled bs counter e
 unfolding settled_in
 settled_in_lem bs counter e l h = simp (eq-eqb (length bs) session_bytes l, bounds_hold e h)
-
--- the ways of a push, and of an effect
-module _ (bs : List ℕ) (counter : Ticket) where
-  module _ (start : Slot) (slots : ℕ) (taken : Bool) (i j : ℕ) where
-    pub pushed_in_lem : can_push bs start slots i j ≡ true → pushed_in bs counter start slots taken i j ≡ pushed bs counter start slots taken i j
-    unfolding pushed_in
-    pushed_in_lem h = rw h
-
-    pub pushed_out : can_push bs start slots i j ≡ false → pushed_in bs counter start slots taken i j ≡ bs
-    unfolding pushed_in
-    pushed_out h = rw h
-
-  pub settled-taken : (e : Effect) → (is_session bs && in_bounds e) ≡ true → settled_in bs counter e ≡ settled bs counter e
-  unfolding settled_in
-  settled-taken e h = rw h
-
-  pub settled-left : (e : Effect) → (is_session bs && in_bounds e) ≡ false → settled_in bs counter e ≡ bs
-  unfolding settled_in
-  settled-left e h = rw h
 
 -- a session has all of the entry in each notch
 pub notch_entry : (bs : List ℕ) (p : ℕ) → p < depth → has_entry bs (entry_offset p) ≡ is_session bs

@@ -69,7 +69,7 @@ written s c lent f =
 
 module _ (s : List ℕ) (lent : Lent s) (counter : Ticket) (e : Effect) (bounds : InBounds e) where
   logged : List ℕ
-  logged = pushed s counter e.start e.slots e.taken e.changed.row e.also.row
+  logged = pushed s counter e
 
   p : ℕ
   p = head_of s
@@ -79,7 +79,7 @@ module _ (s : List ℕ) (lent : Lent s) (counter : Ticket) (e : Effect) (bounds 
   p_in = head_in s
 
   noted : List ℕ
-  noted = entry_kept s e.start e.slots e.taken e.changed.row e.also.row (entry_offset p)
+  noted = entry_kept s e (entry_offset p)
 
   noted_change : Changes s noted (entry_offset p) entry_bytes
   unfolding noted
@@ -159,7 +159,7 @@ module _ (s : List ℕ) (lent : Lent s) (counter : Ticket) (e : Effect) (fits : 
   lent_pushes = pushed_lent s lent counter e fits.bounds
 
   marks : List ℕ
-  marks = run_marked pushes e.start e.slots e.taken
+  marks = run_marked pushes e.run
 
   lent_marks : Lent marks
   unfolding marks

@@ -51,9 +51,9 @@ unfolding settled effect_put pushed
 settled-tidy s lent counter e fits tidy =
     (change_neat _ e.also fits.also
     (change_neat _ e.changed (λ l. fits.changed)
-    (run_neat _ e.start e.slots e.taken
+    (run_neat _ e.run
     (header_neat _ counter _ _
-    (entry_neat s e.start e.slots e.taken e.changed.row e.also.row (head_of s) (omega (arith, fits.bounds.changed)) fits.bounds.also (head_in s) (lent, tidy)))))).1
+    (entry_neat s e (head_of s) (omega (arith, fits.bounds.changed)) fits.bounds.also (head_in s) (lent, tidy)))))).1
 
 stepped_neat : (s : List ℕ) → Neat s → Neat (stepped s)
 unfolding stepped

@@ -8,24 +8,24 @@ use Rattle.rows.specs.Row.{put_row}
 use Rattle.rules.specs.{declared.effect.Change.Change, declared.effect.Effect.Effect}
 use Rattle.store.specs.{Layout.is_session, Layout.row_offset, Layout.entry_offset, Stands.kept_of, Stands.head_of}
 use Rattle.trains.specs.Sought.{row_count}
-use Rattle.kinds.specs.{declared.Slot.Slot, declared.Ticket.Ticket}
-use Rattle.entries.specs.{Kept.can_keep, Kept.in_bounds, Kept.entry_kept, Marks.run_marked}
+use Rattle.kinds.specs.declared.Ticket.{Ticket}
+use Rattle.entries.specs.{Kept.in_bounds, Kept.entry_kept, Marks.run_marked}
 use Rattle.ledger.specs.Log.{headed}
 
 -- ---- the entry pushed
 
--- what undoes an effect on a run and rows i and j goes to the next notch, and the counter is set
-unfoldable pub pushed : List ℕ → Ticket → Slot → ℕ → Bool → ℕ → ℕ → List ℕ
-pushed bs counter start slots taken i j =
-    headed (entry_kept bs start slots taken i j (entry_offset (head_of bs))) counter (min depth (suc (kept_of bs))) (after depth (head_of bs))
+-- what undoes an effect goes to the next notch, and the counter is set
+unfoldable pub pushed : List ℕ → Ticket → Effect → List ℕ
+pushed bs counter e =
+    headed (entry_kept bs e (entry_offset (head_of bs))) counter (min depth (suc (kept_of bs))) (after depth (head_of bs))
 
--- the bytes are a session's, and an entry can keep the run and the rows
-abbrev pub can_push : List ℕ → Slot → ℕ → ℕ → ℕ → Bool
-can_push bs start slots i j = is_session bs && can_keep start slots i j
+-- the bytes are a session's, and an entry can keep what undoes the effect
+abbrev pub can_push : List ℕ → Effect → Bool
+can_push bs e = is_session bs && in_bounds e
 
 -- and where that cannot be, the bytes as they were
-unfoldable pub pushed_in : List ℕ → Ticket → Slot → ℕ → Bool → ℕ → ℕ → List ℕ
-pushed_in bs counter start slots taken i j = cond (can_push bs start slots i j) (pushed bs counter start slots taken i j) bs
+unfoldable pub pushed_in : List ℕ → Ticket → Effect → List ℕ
+pushed_in bs counter e = cond (can_push bs e) (pushed bs counter e) bs
 
 -- ---- the effect put
 
@@ -35,12 +35,12 @@ change_put bs c = cond (ltb c.row row_count) (put_row bs (row_offset c.row) c.tr
 
 -- an effect put: its slots marked, and then its rows
 unfoldable pub effect_put : List ℕ → Effect → List ℕ
-effect_put bs e = change_put (change_put (run_marked bs e.start e.slots e.taken) e.changed) e.also
+effect_put bs e = change_put (change_put (run_marked bs e.run) e.changed) e.also
 
 -- the bytes after an accepted operation: the entry is kept before anything changes
 unfoldable pub settled : List ℕ → Ticket → Effect → List ℕ
-settled bs counter e = effect_put (pushed bs counter e.start e.slots e.taken e.changed.row e.also.row) e
+settled bs counter e = effect_put (pushed bs counter e) e
 
 -- and where the lent bytes are no session, or the effect is out of bounds, as they were
 unfoldable pub settled_in : List ℕ → Ticket → Effect → List ℕ
-settled_in bs counter e = cond (is_session bs && in_bounds e) (settled bs counter e) bs
+settled_in bs counter e = cond (can_push bs e) (settled bs counter e) bs

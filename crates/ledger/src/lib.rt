@@ -14,6 +14,7 @@ use kinds::Ticket;
 use store::layout;
 
 // The entry in a notch of the ring.
+#[tactic(auto, unfolding(replay::specs::Demand3::depth))]
 fn entry_offset(notch: usize) -> usize
     requires { notch < depth }
     ensures { result ≡ entry_offset notch }
@@ -22,6 +23,7 @@ fn entry_offset(notch: usize) -> usize
 }
 
 // The header: the ticket counter, the entries kept and the notch that the next entry goes to.
+#[tactic(auto, unfolding(crate::specs::Log::headed))]
 fn put_header(s: &mut [u8], counter: Ticket, kept: usize, head: usize)
     requires { (kept < 2 ^ 32) × (head < 2 ^ 32) }
     ensures { s.new ≡ headed s.old counter kept head }

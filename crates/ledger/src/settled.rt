@@ -3,27 +3,20 @@ ghost use Rattle.std.specs.Prelude.{◌≡◌};
 ghost use Rattle.ledger.specs.Settled.{can_push, pushed_in, change_put, settled_in};
 
 use entries::{kept, marks};
-use kinds::{Slot, Ticket};
+use kinds::Ticket;
 use rows::row;
 use rules::effect::{Change, Effect};
 use store::{layout, view};
 use trains::sought::ROWS;
 
-// What undoes an effect on a run and rows i and j pushed, and the counter set, where that can be; and whether it was.
-fn push(
-    s: &mut [u8],
-    counter: Ticket,
-    start: Slot,
-    slots: u32,
-    taken: bool,
-    i: usize,
-    j: usize,
-) -> bool
-    ensures { (result ≡ can_push s.old start slots i j) × (s.new ≡ pushed_in s.old counter start slots taken i j) }
+// What undoes an effect pushed, and the counter set, where that can be; and whether it was.
+#[tactic(auto, using(crate::proofs::BoundsLaws::notch_entry, store::proofs::ViewLaws::head_in, ring::proofs::Rings::after_in), unfolding(replay::specs::Demand3::depth, crate::specs::Settled::pushed_in, crate::specs::Settled::pushed, entries::specs::Kept::kept_in))]
+fn push(s: &mut [u8], counter: Ticket, effect: &Effect) -> bool
+    ensures { (result ≡ can_push s.old effect.now) × (s.new ≡ pushed_in s.old counter effect.now) }
 {
     let head = view::head(s);
     let kept = ring::kept_after(view::kept(s));
-    if !kept::keep(s, start, slots, taken, i, j, crate::entry_offset(head)) {
+    if !kept::keep(s, effect, crate::entry_offset(head)) {
         return false;
     }
     crate::put_header(s, counter, kept, ring::notch_after(head));
@@ -31,6 +24,7 @@ fn push(
 }
 
 // A row put into the register, where its number is one of the register's.
+#[tactic(auto, unfolding(crate::specs::Settled::change_put))]
 fn put_change(s: &mut [u8], change: Change)
     ensures { s.new ≡ change_put s.old change }
 {
@@ -40,19 +34,12 @@ fn put_change(s: &mut [u8], change: Change)
 }
 
 // The one way in which an accepted operation changes a session. Bytes of another length, and an effect out of bounds, are left alone.
+#[tactic(auto, unfolding(crate::specs::Settled::settled_in, crate::specs::Settled::settled, crate::specs::Settled::effect_put, crate::specs::Settled::pushed_in))]
 pub fn settle(s: &mut [u8], counter: Ticket, effect: Effect)
     ensures { s.new ≡ settled_in s.old counter effect }
 {
-    if push(
-        s,
-        counter,
-        effect.start,
-        effect.slots,
-        effect.taken,
-        effect.changed.row,
-        effect.also.row,
-    ) {
-        marks::mark_run(s, effect.start, effect.slots, effect.taken);
+    if push(s, counter, &effect) {
+        marks::mark_run(s, effect.run);
         put_change(s, effect.changed);
         put_change(s, effect.also);
     }

@@ -107,8 +107,8 @@ sound-kept s o c t v h e =
 
 -- the run that is marked had the other mark, so that undoing is exact
 pub run-held : (s : Settings) (o : Op) (c t : Ticket) (v : View) → Sound v → ground_of s o c v ≡ 0
-    → (slot : ℕ) → InBook slot → InRun (done_by s o c t v).effect.start.0 (done_by s o c t v).effect.slots slot
-    → mark_of v.book (slot_of slot) ≡ mark_for (not (done_by s o c t v).effect.taken)
+    → (slot : ℕ) → InBook slot → InRun (done_by s o c t v).effect.run.start.0 (done_by s o c t v).effect.run.slots slot
+    → mark_of v.book (slot_of slot) ≡ mark_for (not (done_by s o c t v).effect.run.taken)
 unfolding ground_of done_by granted released raised mark_for
 run-held s (request loco bytes) c t v h e slot b r = ((requests s.carries loco bytes c v e).run slot r).mark
 run-held s (release loco ticket) c t v h e slot b r =

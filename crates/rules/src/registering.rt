@@ -5,7 +5,7 @@ ghost use Rattle.rules.specs.Registering.{granted, released};
 ghost use Rattle.rules.specs.Ruling.{ruled};
 ghost use Rattle.rules.specs.Meant.{named_meant, ruling_by, ruling_meant};
 
-use crate::effect::Effect;
+use crate::effect::{Effect, Run};
 use crate::named::Named;
 use crate::refusals::Refusal;
 use crate::ruling::{Ruling, Told};
@@ -25,7 +25,15 @@ pub fn grant(loco: Loco, slots: u32, ticket: Ticket, row: usize, start: Slot) ->
             third: slots,
         },
         counter: ticket,
-        effect: Effect::on_row_and_run(row, train, start, slots, true),
+        effect: Effect::on_row_and_run(
+            row,
+            train,
+            Run {
+                start,
+                slots,
+                taken: true,
+            },
+        ),
     }
 }
 
@@ -35,11 +43,14 @@ pub fn release(named: Named, counter: Ticket) -> Result<Ruling, Refusal>
     ensures { ruling_meant counter result ≡ ruled counter (name_ground (named_meant named) 0) (released counter (named_meant named)) }
 {
     let live = named.train()?;
-    let start = live.train.start;
-    let effect = Effect::on_row_and_run(live.row, Train::blank(), start, live.train.slots, false);
+    let freed = Run {
+        start: live.train.start,
+        slots: live.train.slots,
+        taken: false,
+    };
     Ok(Ruling {
         told: Told::nothing(),
         counter,
-        effect,
+        effect: Effect::on_row_and_run(live.row, Train::blank(), freed),
     })
 }

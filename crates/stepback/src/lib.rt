@@ -10,6 +10,7 @@ use rules::ruling::Answer;
 use store::{layout, view};
 
 // Steps back by the latest k entries kept. The ticket counter stays.
+#[tactic(auto, unfolding(rules::specs::Refusals::number_of, replay::specs::Demand3::depth, crate::specs::Back::of_session, crate::specs::Back::back_answer, crate::specs::Back::back_after, ledger::specs::Back::stepped_in))]
 pub fn step_back(session: &mut [u8], k: u32) -> Answer
     ensures value { result ≡ back_answer session.old k }
     ensures session_after { session.new ≡ back_after session.old k }

@@ -24,28 +24,9 @@ use Rattle.store.proofs.RegisterLaws.{view-by}
 use Rattle.store.proofs.Stretches.{length-stretch, stretch_at}
 use Rattle.store.proofs.ViewLaws.{view-row, view-rows}
 
--- the first n bytes are 0
-abbrev pub Zeros : ℕ → List ℕ → Type 0
-Zeros n bs = (k : ℕ) → k < n → get_or bs k 0 ≡ 0
-
--- one more made 0
-pub zeros-more : (bs : List ℕ) (i : ℕ) → i < length bs → Zeros i bs → Zeros (i + 1) (set bs i 0)
-zeros-more bs i h z k l = at (ℕ_discrete k i)
-  where
-    at : Dec (k ≡ i) → get_or (set bs i 0) k 0 ≡ 0
-    at (yes e) = rw e (get_or-set_same bs i 0 0 h)
-    at (no ne) = get_or-set_other bs i k 0 0 ne ∙ z k (omega arith)
-
 pub length-emptied : (bs : List ℕ) → length (emptied bs) ≡ length bs
 unfolding emptied
 length-emptied bs = length-replicate {A = ℕ} (length bs) 0
-
--- as many bytes, and all of them 0
-pub zeros-all : (bs old : List ℕ) (n : ℕ) → length bs ≡ length old → length bs ≤ n → Zeros n bs → bs ≡ emptied old
-unfolding emptied
-zeros-all bs old n e h z =
-    ext_get_or 0 bs (replicate (length old) 0) (e ∙ sym (length-replicate {A = ℕ} (length old) 0))
-    (λ k l. z k (omega arith) ∙ sym (get_or-replicate {A = ℕ} (length old) k 0 0 (omega arith)))
 
 -- ---- what the empty session stands for
 

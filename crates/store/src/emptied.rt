@@ -3,12 +3,9 @@ ghost use Rattle.std.specs.Prelude.{◌≡◌};
 ghost use Rattle.store.specs.Emptied.{emptied};
 
 // Every byte made 0.
+#[tactic(auto, unfolding(crate::specs::Emptied::emptied))]
 pub fn clear(s: &mut [u8])
     ensures { s.new ≡ emptied s.old }
 {
-    let mut i: usize = 0;
-    while i < s.len() {
-        s[i] = 0;
-        i += 1;
-    }
+    s.fill(0);
 }

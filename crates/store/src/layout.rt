@@ -40,6 +40,7 @@ pub const ENTRY: usize = ALSO + 1 + row::ROW;
 pub const SESSION: usize = LOG + ENTRY * ring::DEPTH;
 
 // Are there as many bytes as a session has?
+#[tactic(auto, unfolding(replay::specs::Demand3::depth))]
 pub fn is_session(s: &[u8]) -> bool
     ensures { result ≡ is_session s.now }
 {

@@ -19,14 +19,15 @@ pub fn counter(s: &[u8]) -> Ticket
 }
 
 // The entries kept: never more than the ring has notches.
+#[tactic(auto, unfolding(replay::specs::Demand3::depth))]
 pub fn kept(s: &[u8]) -> usize
     ensures { result ≡ kept_of s.now }
 {
-    let n = numbers::word_at(s, layout::KEPT) as usize;
-    if n < ring::DEPTH { n } else { ring::DEPTH }
+    (numbers::word_at(s, layout::KEPT) as usize).min(ring::DEPTH)
 }
 
 // The notch of the ring that the next entry goes to.
+#[tactic(auto, unfolding(replay::specs::Demand3::depth))]
 pub fn head(s: &[u8]) -> usize
     ensures { result ≡ head_of s.now }
 {
@@ -45,6 +46,7 @@ pub fn train(s: &[u8], i: usize) -> Train
 }
 
 // The first row that holds a loco and a ticket together.
+#[tactic(auto, using(crate::proofs::ViewLaws::find_in_lem))]
 pub fn find(s: &[u8], loco: Loco, ticket: Ticket) -> Option<usize>
     ensures { result ≡ find_in (view_of s.now) (Pair loco ticket) }
 {
@@ -52,6 +54,7 @@ pub fn find(s: &[u8], loco: Loco, ticket: Ticket) -> Option<usize>
 }
 
 // The first row with a loco number.
+#[tactic(auto, using(crate::proofs::ViewLaws::find_in_lem))]
 pub fn find_loco(s: &[u8], loco: Loco) -> Option<usize>
     ensures { result ≡ find_in (view_of s.now) (Number loco) }
 {
@@ -59,6 +62,7 @@ pub fn find_loco(s: &[u8], loco: Loco) -> Option<usize>
 }
 
 // The first empty row.
+#[tactic(auto, using(crate::proofs::ViewLaws::find_in_lem))]
 pub fn find_empty(s: &[u8]) -> Option<usize>
     ensures { result ≡ find_in (view_of s.now) Empty }
 {
@@ -69,8 +73,5 @@ pub fn find_empty(s: &[u8]) -> Option<usize>
 pub fn is_taken(s: &[u8], slot: Slot) -> bool
     ensures { result ≡ is_taken (book_of s.now) slot }
 {
-    if !slot.in_range() {
-        return false;
-    }
-    numbers::byte_at(s, layout::BOOK + (slot.0 as usize - 1)) != 0
+    slot.in_range() && numbers::byte_at(s, layout::BOOK + (slot.0 as usize - 1)) != 0
 }

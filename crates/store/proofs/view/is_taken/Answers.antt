@@ -11,17 +11,17 @@ use Rattle.store.specs.Layout.{book_at}
 use Rattle.store.proofs.BookLaws.{taken-by, not_in_book}
 use Rattle.store.proofs.view.is_taken.Goals as goal
 
-pub returns-then-not-in_range : goal.returns-then-not-in_range
-returns-then-not-in_range c =
-    let a = c.args in
-    sym (not_in_book a.s.now a.slot (sym c.in_range.ensures ∙ c.if-not-in_range.true))
-
 pub overflow_sub-slot : goal.overflow_sub-slot
-overflow_sub-slot c = omega (arith, one-to last_slot c.args.slot.0 (sym c.in_range.ensures ∙ c.if-not-in_range.false))
+overflow_sub-slot c = omega (arith, one-to last_slot c.args.slot.0 (sym c.in_range.ensures ∙ c.if-in_range.true))
 
-pub returns : goal.returns
-returns c =
+pub returns-then-in_range : goal.returns-then-in_range
+returns-then-in_range c =
     let a = c.args in
     let at : ℕ = book_at + (a.slot.0 - 1) in
-    ap (λ (x : ℕ). not (eqb x 0)) (c.byte_at.ensures ∙ number-byte a.s.now at (omega (arith, c.shared_slice_known-1.given at)))
-    ∙ taken-by a.s.now a.slot (sym c.in_range.ensures ∙ c.if-not-in_range.false)
+    ap (λ (x : ℕ). not (eqb x 0)) (c.byte_at.ensures ∙ number-byte a.s.now at (omega (arith, c.type_inv.s at)))
+    ∙ taken-by a.s.now a.slot (sym c.in_range.ensures ∙ c.if-in_range.true)
+
+pub returns-else-in_range : goal.returns-else-in_range
+returns-else-in_range c =
+    let a = c.args in
+    c.if-in_range.false ∙ sym (not_in_book a.s.now a.slot (sym c.in_range.ensures ∙ c.if-in_range.false))

@@ -1,8 +1,0 @@
--- `store::layout::is_session` meets its contract.
-use Rattle.replay.specs.Demand3.{depth}
-use borrow.Author.Rules.{rules}
-use Rattle.store.proofs.layout.is_session.Goals as goal
-
-pub returns : goal.returns
-unfolding depth
-returns c = search rules

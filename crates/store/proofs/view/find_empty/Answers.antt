@@ -1,7 +1,0 @@
--- `store::view::find_empty` meets its contract.
-use mathlib.Core.Path.{sym, ◌∙◌}
-use Rattle.store.proofs.ViewLaws.{find_in_lem}
-use Rattle.store.proofs.view.find_empty.Goals as goal
-
-pub returns : goal.returns
-returns c = c.find_empty.ensures ∙ sym (find_in_lem c.args.s.now _)
