@@ -1,7 +1,8 @@
 // The operations on a lent session, under their names in C. `number` is a loco's number, and `under` the ticket that it was granted.
+// Each is a function of its own, however alike: C calls it by its name, and `Links` names it.
 ghost use Rattle.std.specs.Prelude.{◌≡◌};
 ghost use Rattle.store.specs.Layout.{session_bytes};
-ghost use Rattle.rules.specs.Deeds.{meant, flags, position, authority, danger, clear};
+ghost use Rattle.rules.specs.Deeds.{flags, position, authority, danger, clear};
 ghost use Rattle.rules.specs.Rules.{Op};
 ghost use Rattle.session.specs.Answers.{answer_to, bytes_after, start_answer, start_after};
 ghost use Rattle.stepback.specs.Back.{back_answer, back_after};
@@ -14,6 +15,7 @@ use session::operations;
 use store::layout;
 
 // The bytes that a session takes.
+#[tactic(auto, unfolding(replay::specs::Demand3::depth))]
 #[unsafe(no_mangle)]
 pub extern "C" fn kb_session_size() -> usize
     ensures { result ≡ session_bytes }
@@ -45,20 +47,12 @@ pub extern "C" fn kb_release(session: &mut [u8], number: u32, under: u32) -> Ans
     operations::release(session, Loco(number), Ticket(under))
 }
 
-// A deed on one train, by numbers.
-fn on(session: &mut [u8], number: u32, under: u32, deed: Deed, bits: &[u8]) -> Answer
-    ensures value { result ≡ answer_to session.old (Op.on (loco number) (ticket under) (meant deed bits.now)) }
-    ensures session_after { session.new ≡ bytes_after session.old (Op.on (loco number) (ticket under) (meant deed bits.now)) }
-{
-    operations::on(session, Loco(number), Ticket(under), deed, bits)
-}
-
 #[unsafe(no_mangle)]
 pub extern "C" fn kb_flags(session: &mut [u8], number: u32, under: u32, bits: &[u8]) -> Answer
     ensures value { result ≡ answer_to session.old (Op.on (loco number) (ticket under) (flags bits.now)) }
     ensures session_after { session.new ≡ bytes_after session.old (Op.on (loco number) (ticket under) (flags bits.now)) }
 {
-    on(session, number, under, Deed::Flags, bits)
+    operations::on(session, Loco(number), Ticket(under), Deed::Flags, bits)
 }
 
 #[unsafe(no_mangle)]
@@ -72,7 +66,13 @@ pub extern "C" fn kb_position(
     ensures value { result ≡ answer_to session.old (Op.on (loco number) (ticket under) (position front rear)) }
     ensures session_after { session.new ≡ bytes_after session.old (Op.on (loco number) (ticket under) (position front rear)) }
 {
-    on(session, number, under, Deed::Position(front, rear), b"")
+    operations::on(
+        session,
+        Loco(number),
+        Ticket(under),
+        Deed::Position(front, rear),
+        b"",
+    )
 }
 
 #[unsafe(no_mangle)]
@@ -80,7 +80,13 @@ pub extern "C" fn kb_authority(session: &mut [u8], number: u32, under: u32, end:
     ensures value { result ≡ answer_to session.old (Op.on (loco number) (ticket under) (authority end)) }
     ensures session_after { session.new ≡ bytes_after session.old (Op.on (loco number) (ticket under) (authority end)) }
 {
-    on(session, number, under, Deed::Authority(end), b"")
+    operations::on(
+        session,
+        Loco(number),
+        Ticket(under),
+        Deed::Authority(end),
+        b"",
+    )
 }
 
 #[unsafe(no_mangle)]
@@ -88,7 +94,13 @@ pub extern "C" fn kb_danger(session: &mut [u8], number: u32, under: u32, locatio
     ensures value { result ≡ answer_to session.old (Op.on (loco number) (ticket under) (danger location)) }
     ensures session_after { session.new ≡ bytes_after session.old (Op.on (loco number) (ticket under) (danger location)) }
 {
-    on(session, number, under, Deed::Danger(location), b"")
+    operations::on(
+        session,
+        Loco(number),
+        Ticket(under),
+        Deed::Danger(location),
+        b"",
+    )
 }
 
 // SOS between L2, named first, and L1.
@@ -119,7 +131,13 @@ pub extern "C" fn kb_clear(session: &mut [u8], number: u32, under: u32, other: u
     ensures value { result ≡ answer_to session.old (Op.on (loco number) (ticket under) (clear (ticket other))) }
     ensures session_after { session.new ≡ bytes_after session.old (Op.on (loco number) (ticket under) (clear (ticket other))) }
 {
-    on(session, number, under, Deed::Clear(Ticket(other)), b"")
+    operations::on(
+        session,
+        Loco(number),
+        Ticket(under),
+        Deed::Clear(Ticket(other)),
+        b"",
+    )
 }
 
 #[unsafe(no_mangle)]

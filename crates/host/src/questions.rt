@@ -1,4 +1,5 @@
 // The questions that only read a lent session, under their names in C. Each refuses bytes of another length.
+// Each is a function of its own, however alike, since C calls it by its name.
 ghost use Rattle.std.specs.Prelude.{◌≡◌};
 ghost use Rattle.numbers.specs.Numbers.{one_if};
 ghost use Rattle.rules.specs.Slots.{slot_of};
@@ -8,7 +9,6 @@ ghost use Rattle.session.specs.Answers.{end_answer_to};
 ghost use Rattle.host.specs.Kinds.{loco, ticket};
 ghost use Rattle.host.specs.Told.{number_answer, train_answer};
 
-use crate::told;
 use crate::told::TrainAnswer;
 use kinds::{Loco, Slot, Ticket};
 use rules::refusals::Refusal;
@@ -17,6 +17,7 @@ use session::questions;
 use store::layout;
 
 // A number that was asked of a session.
+#[tactic(auto, unfolding(crate::specs::Told::number_answer, stepback::specs::Back::of_session))]
 fn tell(session: &[u8], number: u32) -> Answer
     ensures { result ≡ number_answer session.now number }
 {
@@ -47,10 +48,7 @@ pub extern "C" fn kb_kept(session: &[u8]) -> Answer
 pub extern "C" fn kb_is_taken(session: &[u8], slot: u32) -> Answer
     ensures { result ≡ number_answer session.now (one_if (is_taken (book_of session.now) (slot_of slot))) }
 {
-    tell(
-        session,
-        numbers::one_if(questions::is_taken(session, Slot(slot))),
-    )
+    tell(session, u32::from(questions::is_taken(session, Slot(slot))))
 }
 
 // The effective end of a named train.
@@ -62,6 +60,7 @@ pub extern "C" fn kb_end(session: &[u8], number: u32, under: u32) -> Answer
 }
 
 // The train in a row of the register, counted from 0. A row above 23 reads as blank.
+#[tactic(auto, unfolding(crate::specs::Told::train_answer))]
 #[unsafe(no_mangle)]
 pub extern "C" fn kb_train(session: &[u8], row: u32) -> TrainAnswer
     ensures { result ≡ train_answer session.now row }
@@ -69,5 +68,5 @@ pub extern "C" fn kb_train(session: &[u8], row: u32) -> TrainAnswer
     if !layout::is_session(session) {
         return TrainAnswer::refused(Refusal::WrongLength.number());
     }
-    told::tell(questions::train(session, row))
+    TrainAnswer::from(questions::train(session, row))
 }

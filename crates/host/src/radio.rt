@@ -1,5 +1,5 @@
 // What needs no session: a sub-packet's frame, gates and turnouts read and written, gates moved between their two forms, the age of a frame, the mode
-// step by either engine, and a vendor's mode trace checked.
+// step by either engine, and a vendor's mode trace checked. Each is a function of its own, however alike, since C calls it by its name.
 ghost use Rattle.std.specs.Prelude.{◌≡◌};
 ghost use Rattle.clock.specs.Age.{frame_age};
 ghost use Rattle.modes.specs.Next.{next_step};
@@ -32,6 +32,7 @@ pub struct FrameAnswer {
     pub length: usize,
 }
 
+#[tactic(auto, unfolding(crate::specs::Frame::frame_answer))]
 #[unsafe(no_mangle)]
 pub extern "C" fn kb_frame(bytes: &[u8]) -> FrameAnswer
     ensures { result ≡ frame_answer bytes.now }

@@ -1,13 +1,13 @@
-// A train record as numbers. Where there is no position, authority, signal or limit, the number is that of none.
+// A train record as the numbers that C reads: where there is no position, authority, signal or limit, the number is that of none.
 ghost use Rattle.std.specs.Prelude.{◌≡◌};
-ghost use Rattle.host.specs.Told.{number_or_none, front_number, rear_number, order_told, orders_told, train_told, train_refused};
+ghost use Rattle.host.specs.Told.{order_told, train_told, train_refused};
 
-use kinds::ranges;
-use trains::record::{Order, Position, Train};
+use kinds::ranges::NONE;
+use trains::record::{Order, Train};
 
 // An order: the other train's ticket, 0 for no order; and the limit in metres, or none for a bare one.
 #[repr(C)]
-#[derive(Clone, Copy)]
+#[derive(Clone, Copy, Default)]
 pub struct OrderTold {
     pub ticket: u32,
     pub limit: u32,
@@ -15,7 +15,7 @@ pub struct OrderTold {
 
 // A row of the register: 0 with the record's numbers, or a refusal's number with zeros. An empty row has loco 0.
 #[repr(C)]
-#[derive(Clone, Copy)]
+#[derive(Clone, Copy, Default)]
 pub struct TrainAnswer {
     pub answer: u32,
     pub loco: u32,
@@ -31,94 +31,49 @@ pub struct TrainAnswer {
     pub orders: [OrderTold; 4],
 }
 
-// A location, or a limit.
-fn number_or_none(number: Option<u32>) -> u32
-    ensures { result ≡ number_or_none number }
-{
-    number.unwrap_or(ranges::NONE)
-}
+impl From<Order> for OrderTold {
+    ghost from_gives = { λ order told. told ≡ order_told order };
 
-#[tactic(auto, unfolding(crate::specs::Told::front_number))]
-fn front_number(position: Option<Position>) -> u32
-    ensures { result ≡ front_number position }
-{
-    match position {
-        None => ranges::NONE,
-        Some(ends) => ends.front,
+    fn from(order: Order) -> OrderTold {
+        OrderTold {
+            ticket: order.other.0,
+            limit: order.limit.unwrap_or(NONE),
+        }
     }
-}
-
-#[tactic(auto, unfolding(crate::specs::Told::rear_number))]
-fn rear_number(position: Option<Position>) -> u32
-    ensures { result ≡ rear_number position }
-{
-    match position {
-        None => ranges::NONE,
-        Some(ends) => ends.rear,
-    }
-}
-
-fn tell_order(order: Order) -> OrderTold
-    ensures { result ≡ order_told order }
-{
-    OrderTold {
-        ticket: order.other.0,
-        limit: number_or_none(order.limit),
-    }
-}
-
-fn tell_orders(orders: [Order; 4]) -> [OrderTold; 4]
-    ensures { result ≡ orders_told orders }
-{
-    [
-        tell_order(orders[0]),
-        tell_order(orders[1]),
-        tell_order(orders[2]),
-        tell_order(orders[3]),
-    ]
 }
 
 // The record of a row in numbers.
-pub fn tell(train: Train) -> TrainAnswer
-    ensures { result ≡ train_told train }
-{
-    TrainAnswer {
-        answer: 0,
-        loco: train.loco.0,
-        ticket: train.ticket.0,
-        start: train.start.0,
-        slots: train.slots,
-        mode: train.mode,
-        left: train.left,
-        front: front_number(train.track.position),
-        rear: rear_number(train.track.position),
-        authority: number_or_none(train.track.granted),
-        danger: number_or_none(train.track.danger),
-        orders: tell_orders(train.orders),
+impl From<Train> for TrainAnswer {
+    ghost from_gives = { λ train told. told ≡ train_told train };
+
+    #[tactic(auto, unfolding(crate::specs::Told::front_number, crate::specs::Told::rear_number, crate::specs::Told::orders_told, crate::specs::Told::train_told))]
+    fn from(train: Train) -> TrainAnswer {
+        let position = train.track.position;
+        TrainAnswer {
+            answer: 0,
+            loco: train.loco.0,
+            ticket: train.ticket.0,
+            start: train.start.0,
+            slots: train.slots,
+            mode: train.mode,
+            left: train.left,
+            front: position.map_or(NONE, |ends| ends.front),
+            rear: position.map_or(NONE, |ends| ends.rear),
+            authority: train.track.granted.unwrap_or(NONE),
+            danger: train.track.danger.unwrap_or(NONE),
+            orders: train.orders.map(OrderTold::from),
+        }
     }
 }
 
 impl TrainAnswer {
+    #[tactic(auto, unfolding(crate::specs::Told::train_refused))]
     pub fn refused(reason: u32) -> TrainAnswer
         ensures { result ≡ train_refused reason }
     {
-        let none = OrderTold {
-            ticket: 0,
-            limit: 0,
-        };
         TrainAnswer {
             answer: reason,
-            loco: 0,
-            ticket: 0,
-            start: 0,
-            slots: 0,
-            mode: 0,
-            left: 0,
-            front: 0,
-            rear: 0,
-            authority: 0,
-            danger: 0,
-            orders: [none, none, none, none],
+            ..TrainAnswer::default()
         }
     }
 }

@@ -1,5 +1,5 @@
 -- What the contract of a call says.
-use mathlib.Core.Path.{◌≡◌, sym, ap, ◌∙◌}
+use mathlib.Core.Path.{◌≡◌}
 use mathlib.Core.List.{List}
 use Prim.Native.Nat.{ℕ}
 use Rattle.replay.specs.Demand3.{Call}
@@ -11,7 +11,3 @@ module _ (bs : List ℕ) where
   -- its answer, and the bytes after it
   abbrev pub Called : Call Op → Answer → List ℕ → Type 0
   Called c a after = (a ≡ answered bs c) × (after ≡ bytes_left bs c)
-
-  -- the same call
-  pub called_same : {c d : Call Op} {a : Answer} {after : List ℕ} → c ≡ d → Called d a after → Called c a after
-  called_same e (ea, eb) = (ea ∙ ap (answered bs) (sym e), eb ∙ ap (bytes_left bs) (sym e))

@@ -11,6 +11,7 @@ use rules::ruling::Answer;
 use session::operations;
 
 // The call that a record asks for is made.
+#[tactic(auto, unfolding(standing::specs::Standing::answered, standing::specs::Standing::bytes_left))]
 fn make(session: &mut [u8], asked: Asked, flags: &[u8]) -> Answer
     ensures value { result ≡ answered session.old (meant_by asked flags.now) }
     ensures session_after { session.new ≡ bytes_left session.old (meant_by asked flags.now) }
@@ -28,6 +29,7 @@ fn make(session: &mut [u8], asked: Asked, flags: &[u8]) -> Answer
 
 // Runs the first record of `held`, where `before` records came before it. What follows the record is not read. Where `held` begins with no whole
 // record, or `before` is the most that a recording has, the answer is 24 and the session stays as it was.
+#[tactic(auto, using(records::proofs::FormLaws::record_head, records::proofs::FormLaws::record_whole, records::proofs::FormLaws::run_record, records::proofs::FormLaws::payload_cut), unfolding(crate::specs::Running::ran_record, crate::specs::Running::bytes_after_record, records::specs::Form::call_of))]
 pub fn run(session: &mut [u8], held: &[u8], before: u32) -> Ran
     ensures value { result ≡ ran_record session.old held.now before }
     ensures session_after { session.new ≡ bytes_after_record session.old held.now before }
@@ -38,10 +40,7 @@ pub fn run(session: &mut [u8], held: &[u8], before: u32) -> Ran
     let kind = form::kind_of(held);
     let length = form::record_length(held);
     let payload = &held[form::HEAD as usize..length as usize];
-    let answer = make(
-        session,
-        asked::asked_by(kind, payload),
-        asked::flags_in(payload),
-    );
+    let call = asked::asked_by(kind, payload);
+    let answer = make(session, call, asked::flags_in(payload));
     Ran::run_with(before, kind, length, answer)
 }

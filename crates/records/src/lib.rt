@@ -3,4 +3,5 @@
 
 pub mod asked;
 pub mod form;
+pub mod kind;
 pub mod told;
