@@ -17,7 +17,7 @@ use session::questions;
 use store::layout;
 
 // A number that was asked of a session.
-#[tactic(auto, unfolding(crate::specs::Told::number_answer, stepback::specs::Back::of_session))]
+#[tactic(auto, unfolding(rules::specs::Refusals::number_of, crate::specs::Told::number_answer, stepback::specs::Back::of_session))]
 fn tell(session: &[u8], number: u32) -> Answer
     ensures { result ≡ number_answer session.now number }
 {
@@ -60,13 +60,13 @@ pub extern "C" fn kb_end(session: &[u8], number: u32, under: u32) -> Answer
 }
 
 // The train in a row of the register, counted from 0. A row above 23 reads as blank.
-#[tactic(auto, unfolding(crate::specs::Told::train_answer))]
+#[tactic(auto, unfolding(rules::specs::Refusals::number_of, crate::specs::Told::train_answer))]
 #[unsafe(no_mangle)]
 pub extern "C" fn kb_train(session: &[u8], row: u32) -> TrainAnswer
     ensures { result ≡ train_answer session.now row }
 {
     if !layout::is_session(session) {
-        return TrainAnswer::refused(Refusal::WrongLength.number());
+        return TrainAnswer::refused(Refusal::WrongLength);
     }
     TrainAnswer::from(questions::train(session, row))
 }

@@ -34,6 +34,7 @@ impl Ran {
         }
     }
 
+    #[tactic(auto, unfolding(rules::specs::Refusals::number_of))]
     pub fn not_run(before: u32) -> Ran
         ensures { result ≡ not_run before }
     {
