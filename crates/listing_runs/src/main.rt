@@ -7,8 +7,10 @@ ghost use Rattle.std.specs.Prelude.{◌≡◌, ◌<◌, ◌≤◌, length};
 
 use listing::whole;
 
-// The descriptor of the standard input.
+// The descriptors of the standard input and output. Both go by `io`: std's reader and writer would rest on one more contract of the toolchain each.
 const STDIN_FILENO: i32 = 0;
+
+const STDOUT_FILENO: i32 = 1;
 
 const HEADER: usize = 4;
 
@@ -24,38 +26,41 @@ fn small(n: u32) -> usize
     (n % 65536) as usize
 }
 
-fn run_list(rt: &impl Print, recording: &[u8], output: &mut [u8]) {
+fn run_list(recording: &[u8], output: &mut [u8]) {
     let (answer, written) = match whole::list(recording, output) {
         Ok(written) => (0, written),
         Err(refused) => (refused as u64, 0),
     };
-    let _ = println!(rt; "{answer} {written}");
-    let _ = rt.write_all(output);
-    let _ = println!(rt);
+    io::print_decimal(STDOUT_FILENO, answer);
+    io::write_all(STDOUT_FILENO, b" ");
+    io::print_decimal(STDOUT_FILENO, written as u64);
+    io::write_all(STDOUT_FILENO, b"\n");
+    io::write_all(STDOUT_FILENO, output);
+    io::write_all(STDOUT_FILENO, b"\n");
 }
 
 // Runs the case that `s` begins with, and answers where the next one starts.
-fn run_case(rt: &impl Print, s: &[u8]) -> usize
+fn run_case(s: &[u8]) -> usize
     ensures { (0 < result) × (result ≤ 65540) }
 {
     let room = small(numbers::half_at(s, 0));
     let next = HEADER + small(numbers::half_at(s, 2));
     let mut output = fresh_output();
     if next <= s.len() {
-        run_list(rt, &s[HEADER..next], &mut output[..room]);
+        run_list(&s[HEADER..next], &mut output[..room]);
     }
     next
 }
 
-fn run_all(rt: &impl Print, s: &[u8]) {
+fn run_all(s: &[u8]) {
     let mut at = 0;
     while at < s.len() {
-        at += run_case(rt, &s[at..]);
+        at += run_case(&s[at..]);
     }
 }
 
-fn main(rt: HostRuntime) {
+fn main() {
     let mut input = io::large_buffer();
     let n = io::read_full(STDIN_FILENO, &mut input);
-    run_all(&rt, &input[..n]);
+    run_all(&input[..n]);
 }
