@@ -6,7 +6,7 @@ use native.Mathlib.Omega.{arith}
 use borrow.Author.Tests.{lt-ltb, le-ltb, eq-eqb, ne_eqb}
 use lib.Dec.{ltb, eqb}
 use Rattle.framing.specs.Refusals.{none, refuse, or_else, unless_refused}
-use Rattle.framing.specs.declared.refusals.Refusal.{Refusal}
+use Rattle.framing.specs.Refusals.{Refusal}
 
 -- what an answer gives where there is no refusal, and where there is one
 pub unless-none : {A : Type 0} (n : ℕ) (a b : A) → n ≡ 0 → unless_refused n a b ≡ a

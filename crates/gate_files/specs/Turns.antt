@@ -2,7 +2,7 @@
 use mathlib.Core.{Bool.Bool, Bool.true, Bool.false, Bool.not, Bool.cond, Bool.◌&&◌, List.List, List.[], List.◌++◌, Path.◌≡◌}
 use Rattle.std.specs.Prelude.{ℕ, ◌+◌, ◌*◌, ◌≤◌, ◌<◌}
 use lib.{Dec.ltb, ListN.take}
-use Rattle.framing.specs.{Refusals.none, Refusals.unless_refused, declared.refusals.Refusal.Refusal}
+use Rattle.framing.specs.{Refusals.none, Refusals.unless_refused, Refusals.Refusal}
 use Rattle.gates.specs.declared.forms.Form.{Form}
 use Rattle.gate_moving.specs.declared.GatesMoved.{GatesMoved}
 use Rattle.holding.specs.{declared.Held.Held, Held.held_bytes, Held.nothing_held, Held.behind_by, Held.is_end, Held.IsReady}

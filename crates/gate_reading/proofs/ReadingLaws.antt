@@ -11,7 +11,7 @@ use lib.Pow.{shr_mod, pow_mono}
 use Rattle.numbers.specs.Fields.{field}
 use Rattle.numbers.specs.Pieces.{total, times, unpack}
 use Rattle.framing.specs.Refusals.{none, no_room, or_else, unless_refused, moved_by}
-use Rattle.framing.specs.declared.refusals.Refusal.{Refusal}
+use Rattle.framing.specs.Refusals.{Refusal}
 use Rattle.framing.proofs.RefusalLaws.{same_number, or_else_go, next, ends, not_below, last_not_below}
 use Rattle.numbers.proofs.FieldLaws.{field-add, field_lt}
 use Rattle.numbers.proofs.PieceLaws.{length-unpack, length-times, unpack-append, sets-append}

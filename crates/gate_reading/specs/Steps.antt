@@ -3,7 +3,7 @@ use Rattle.std.specs.Prelude.{◌≡◌, ℕ, ◌-◌, ◌/◌, ◌%◌, List, [
 use Rattle.std.proofs.lemmas.List.Edits.{sets}
 use Rattle.std.proofs.Math.Seq.{slice}
 use Rattle.numbers.specs.Pieces.{times, unpack}
-use Rattle.framing.specs.declared.refusals.Refusal.{Refusal}
+use Rattle.framing.specs.Refusals.{Refusal}
 use Rattle.profiles.specs.{Profiles.count_of, Profiles.rules_refusal, Reading.entries_of}
 use Rattle.gates.specs.Gates.{gate_profile_with, gate_widths, gate_bits, bits_with}
 use Rattle.gates.specs.Forms.{layout_of, profile_in}

@@ -11,7 +11,7 @@ use lib.Dec.{ltb}
 use lib.ListN.{length, get_or, get_or-append}
 use Rattle.numbers.specs.Pieces.{total, times}
 use Rattle.framing.specs.Refusals.{none, not_allowed, refuse, or_else, unless_refused}
-use Rattle.framing.specs.declared.refusals.Refusal.{Refusal}
+use Rattle.framing.specs.Refusals.{Refusal}
 use Rattle.framing.proofs.RefusalLaws.{tested, tried}
 use Rattle.profiles.specs.Profiles.{count_of, bytes_for, widths_at, widths_of}
 use Rattle.profiles.specs.Reading.{bits_of}

@@ -3,7 +3,7 @@ use Rattle.std.specs.Prelude.{ℕ, ◌+◌, ◌-◌, ◌*◌, List, [], ◌∷�
 use lib.{ListN.get_or, Dec.ltb}
 use Rattle.numbers.specs.{Pieces.pack, Numbers.put_number}
 use Rattle.framing.specs.Refusals.{not_allowed, refuse, or_else}
-use Rattle.framing.specs.declared.refusals.Refusal.{Refusal}
+use Rattle.framing.specs.Refusals.{Refusal}
 use Rattle.profiles.specs.Profiles.{Profile}
 
 abbrev pub gate_type : ℕ  -- the type of a gate sub-packet

@@ -13,7 +13,7 @@ use Rattle.numbers.proofs.FieldLaws.{field-zero}
 use Rattle.numbers.proofs.PieceLaws.{length-unpack}
 use Rattle.numbers.proofs.WithinLaws.{field_within}
 use Rattle.framing.specs.Refusals.{or_else, unless_refused}
-use Rattle.framing.specs.declared.refusals.Refusal.{Refusal}
+use Rattle.framing.specs.Refusals.{Refusal}
 use Rattle.framing.specs.Framing.{length_of}
 use Rattle.framing.proofs.RefusalLaws.{Clear, clear-refuse, clear-or_else, same_number, or_else-first, or_else_then, next, ends, refuse-none, unless-none, unless-some}
 use Rattle.framing.proofs.FramingLaws.{Headed, headed}

@@ -5,7 +5,7 @@ use mathlib.Core.List.{List}
 use native.Mathlib.Omega.{arith}
 use lib.Seq.{slice}
 use Rattle.framing.specs.Refusals.{moved_by}
-use Rattle.framing.specs.declared.refusals.Refusal.{Refusal}
+use Rattle.framing.specs.Refusals.{Refusal}
 use Rattle.framing.proofs.RefusalLaws.{same_number}
 use Rattle.profiles.specs.Profiles.{rules_refusal}
 use Rattle.profiles.proofs.ProfileLaws.{rules-none}

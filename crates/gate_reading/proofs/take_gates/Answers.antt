@@ -5,7 +5,7 @@ use mathlib.Core.List.{List}
 use native.Mathlib.Omega.{arith}
 use lib.ListN.{length}
 use lib.Seq.{sets, slice}
-use Rattle.framing.specs.declared.refusals.Refusal.{Refusal}
+use Rattle.framing.specs.Refusals.{Refusal}
 use Rattle.framing.proofs.RefusalLaws.{same_number, next, ends, unless-none, unless-some}
 use Rattle.profiles.specs.Profiles.{rules_refusal}
 use Rattle.profiles.specs.Reading.{end_refusal}
