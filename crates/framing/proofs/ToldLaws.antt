@@ -2,11 +2,11 @@
 use mathlib.Core.Path.{◌≡◌, sym, ap, ◌∙◌}
 use Rattle.std.specs.Prelude.{Result, Ok, Err, IsErrAnd}
 use native.Mathlib.Omega.{arith}
-use Rattle.framing.specs.Refusals.{Refusal, none, or_else}
+use Rattle.framing.specs.Refusals.{Refusal, none, or_else, unless_refused}
 use Rattle.framing.specs.Told.{ground_of, told}
 use Rattle.framing.specs.declared.refusals.Refusal.{Refusal as Ground}
 use Rattle.framing.specs.declared.refusals.Refusal.TheVariants.{TooShort, WrongType, LengthTooSmall, CutOff, LengthNotForCount, NoRoom, TooManyToMove, NotWholeEntries, TooManyEntries, TooWide, NotAllowed, PaddingSet, DistanceStuck}
-use Rattle.framing.proofs.RefusalLaws.{same_number, or_else_go, or_else-stop}
+use Rattle.framing.proofs.RefusalLaws.{same_number, or_else_go, or_else-stop, unless-some}
 
 -- no ground of the code has number 0
 pub ground-some : (g : Ground) → (ground_of g).number ≡ 0 → ⊥
@@ -39,3 +39,7 @@ passed (Ok x) g e = absurd e
 -- so a `?` that is refused ends the chain too
 pub handed_out : {T : Type 0} (r : Result T Ground) (g : Ground) (a rest : Refusal) → IsErrAnd r (λ y. y ≡ g) → ground_of g ≡ a → told r ≡ or_else a rest
 handed_out r g a rest p e = passed r g p ∙ stops g a rest e
+
+-- and leaves what an answer leaves where there is one
+pub handed-some : {T A : Type 0} (r : Result T Ground) (g : Ground) (a b : A) → IsErrAnd r (λ y. y ≡ g) → unless_refused (told r).number a b ≡ b
+handed-some r g a b p = unless-some _ a b (λ z. ground-some g (sym (same_number (passed r g p)) ∙ z))
