@@ -125,8 +125,5 @@ module _ (a b : ℕ) where
 abbrev pub Clear : Refusal → Type 0
 Clear r = r.number ≡ 0 → none ≡ r
 
-pub clear-refuse : (t : Bool) (n p : ℕ) → Clear (refuse t (record { number = suc n; place = p }))
-clear-refuse t n p = tested Clear t _ (λ e z. absurd (omega arith)) (λ e z. refl)
-
 pub clear-or_else : (a b : Refusal) → Clear b → Clear (or_else a b)
 clear-or_else a b h = along Clear a b (λ ne z. absurd (ne z)) (λ z. h)
