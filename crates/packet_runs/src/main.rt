@@ -114,6 +114,7 @@ fn small(n: u32) -> usize
     (n % 65536) as usize
 }
 
+// A kind stays the number that the input has: the line tells it again.
 fn run_kind(kind: u32, s: &[u8], out: &mut [u8]) {
     match kind {
         1 => run_frame(s),
@@ -139,6 +140,7 @@ fn run_case(s: &[u8]) -> usize
     next
 }
 
+// A `for` is no plainer here: each case tells where the next one starts.
 fn run_all(s: &[u8]) {
     let mut at = 0;
     while at < s.len() {
