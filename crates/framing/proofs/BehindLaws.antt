@@ -10,7 +10,7 @@ use lib.ListN.{length, take, length-append}
 use lib.Seq.{length-take-le, take-take, take-append_seam}
 use Rattle.numbers.proofs.FieldLaws.{field-front}
 use Rattle.framing.specs.Refusals.{too_short, wrong_type, length_too_small, cut_off, refuse, or_else, unless_refused}
-use Rattle.framing.specs.declared.refusals.Refusal.{Refusal}
+use Rattle.framing.specs.Refusals.{Refusal}
 use Rattle.framing.specs.Framing.{type_of, length_of, head_refusal, last_type, frame_refusal, frame_of}
 
 -- the first n bytes, among them the whole first sub-packet

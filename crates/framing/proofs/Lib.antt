@@ -1,4 +1,5 @@
 pub mod RefusalLaws
+pub mod ToldLaws
 pub mod FramingLaws
 pub mod BehindLaws
 pub mod PlaceLaws

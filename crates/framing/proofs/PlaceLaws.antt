@@ -5,7 +5,7 @@ use Prim.Native.Nat.{ℕ, ◌≤◌}
 use native.Mathlib.Omega.{arith}
 use Rattle.framing.specs.Refusals.{type_at, length_at}
 use Rattle.framing.specs.Framing.{head_refusal}
-use Rattle.framing.specs.declared.refusals.Refusal.{Refusal}
+use Rattle.framing.specs.Refusals.{Refusal}
 use Rattle.framing.proofs.RefusalLaws.{tried, tested}
 
 -- what the number and the place of a header's refusal say together

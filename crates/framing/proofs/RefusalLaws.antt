@@ -6,7 +6,7 @@ use native.Mathlib.Omega.{arith}
 use borrow.Author.Tests.{lt-ltb, le-ltb, eq-eqb, ne_eqb}
 use lib.Dec.{ltb, eqb}
 use Rattle.framing.specs.Refusals.{none, refuse, or_else, unless_refused}
-use Rattle.framing.specs.declared.refusals.Refusal.{Refusal}
+use Rattle.framing.specs.Refusals.{Refusal}
 
 -- what an answer gives where there is no refusal, and where there is one
 pub unless-none : {A : Type 0} (n : ℕ) (a b : A) → n ≡ 0 → unless_refused n a b ≡ a
@@ -124,9 +124,6 @@ module _ (a b : ℕ) where
 -- a ground that does not hold is no refusal, and so is a chain of which the last one does not hold either
 abbrev pub Clear : Refusal → Type 0
 Clear r = r.number ≡ 0 → none ≡ r
-
-pub clear-refuse : (t : Bool) (n p : ℕ) → Clear (refuse t (record { number = suc n; place = p }))
-clear-refuse t n p = tested Clear t _ (λ e z. absurd (omega arith)) (λ e z. refl)
 
 pub clear-or_else : (a b : Refusal) → Clear b → Clear (or_else a b)
 clear-or_else a b h = along Clear a b (λ ne z. absurd (ne z)) (λ z. h)

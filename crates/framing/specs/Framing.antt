@@ -3,7 +3,7 @@ use Rattle.std.specs.Prelude.{ℕ, List}
 use lib.{ListN.length, ListN.take, Dec.ltb}
 use Rattle.numbers.specs.Fields.{field}
 use Rattle.framing.specs.Refusals.{type_at, length_at, too_short, wrong_type, length_too_small, cut_off, refuse, or_else, unless_refused}
-use Rattle.framing.specs.declared.refusals.Refusal.{Refusal}
+use Rattle.framing.specs.Refusals.{Refusal}
 
 -- the type, the first 4 bits
 abbrev pub type_of : List ℕ → ℕ

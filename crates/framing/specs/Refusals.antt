@@ -2,7 +2,11 @@
 -- "Sub-packets"; 6 is of document 02, T-07) and its place (document 02, T-03): the first bit of the field at fault, counted from the start of the
 -- sub-packet. Number 0 is no refusal.
 use Rattle.std.specs.Prelude.{ℕ, zero, suc, ◌+◌, Bool, true, false}
-use Rattle.framing.specs.declared.refusals.Refusal.{Refusal}
+
+-- a ground that holds, or none
+pub record Refusal : Type 0 where
+  pub number : ℕ
+  pub place : ℕ
 
 abbrev pub type_at : ℕ  -- where type, length and count start
 type_at = 0

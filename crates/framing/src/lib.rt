@@ -6,6 +6,7 @@ pub mod refusals;
 
 ghost use Rattle.std.specs.Prelude.{◌≡◌, ◌<◌};
 ghost use Rattle.framing.specs.Framing.{type_of, length_of, head_refusal, frame_refusal, frame_of};
+ghost use Rattle.framing.specs.Told.{told};
 
 use refusals::Refusal;
 
@@ -25,46 +26,43 @@ pub fn length_of(s: &[u8]) -> usize
     (numbers::half_at(s, 0) / 32 % 128) as usize
 }
 
-// The refusal by the header, where the types from `low` to `high` are taken.
-pub fn head_refusal(s: &[u8], low: u32, high: u32) -> Refusal
-    ensures { result ≡ head_refusal s.now low high }
+// Judges the header, where the types from `low` to `high` are taken.
+pub fn judge_head(s: &[u8], low: u32, high: u32) -> Result<(), Refusal>
+    ensures { told result ≡ head_refusal s.now low high }
 {
     if s.len() < 2 {
-        return refusals::TOO_SHORT;
+        return Err(Refusal::TooShort);
     }
     let kind = type_of(s);
     if kind < low {
-        return refusals::WRONG_TYPE;
+        return Err(Refusal::WrongType);
     }
     if high < kind {
-        return refusals::WRONG_TYPE;
+        return Err(Refusal::WrongType);
     }
     let n = length_of(s);
     if n < 2 {
-        return refusals::LENGTH_TOO_SMALL;
+        return Err(Refusal::LengthTooSmall);
     }
     if s.len() < n {
-        return refusals::CUT_OFF;
+        return Err(Refusal::CutOff);
     }
-    refusals::NONE
+    Ok(())
 }
 
-// The refusal of the first sub-packet of `s`.
-pub fn frame_refusal(s: &[u8]) -> Refusal
-    ensures { result ≡ frame_refusal s.now }
+// Judges the first sub-packet of `s`.
+pub fn judge_frame(s: &[u8]) -> Result<(), Refusal>
+    ensures { told result ≡ frame_refusal s.now }
 {
-    head_refusal(s, 0, LAST_TYPE)
+    judge_head(s, 0, LAST_TYPE)
 }
 
 // The first sub-packet of `s`, header included; nothing on a refusal.
 pub fn frame(s: &[u8]) -> &[u8]
     ensures { (result.now ≡ frame_of s.now) × (result.ref_ptr ≡ s.entry.ref_ptr) }
 {
-    let refusal = frame_refusal(s);
-    if refusal.number == refusals::ACCEPTED {
-        let n = length_of(s);
-        &s[..n]
-    } else {
-        &s[..0]
+    match judge_frame(s) {
+        Ok(_) => &s[..length_of(s)],
+        Err(_) => &s[..0],
     }
 }

@@ -1,13 +1,37 @@
 // The grounds of refusal, each with its number and its place: the first bit of the field at fault, counted from the start of the sub-packet, and 0
 // where no field is at fault.
 ghost use Rattle.std.specs.Prelude.{◌≡◌};
-ghost use Rattle.framing.specs.Refusals.{not_allowed, padding_set, distance_stuck, or_else};
+ghost use Rattle.framing.specs.Told.{ground_of};
 
-// A ground that holds, or none.
-#[derive(Clone, Copy)]
-pub struct Refusal {
-    pub number: u32,
-    pub place: usize,
+// A ground that holds. The number in brackets is the bit of the field at fault.
+#[derive(Clone, Copy, Debug, PartialEq, Eq)]
+pub enum Refusal {
+    // fewer than 2 bytes
+    TooShort,
+    // a type that does not exist, or not the one asked for
+    WrongType,
+    // a length below 2
+    LengthTooSmall,
+    // fewer bytes than the length says
+    CutOff,
+    // a length that is not the one for the entries that the count says
+    LengthNotForCount,
+    // an output too small
+    NoRoom,
+    // more gates than the form holds to which they are moved
+    TooManyToMove,
+    // bytes outside a sub-packet that are no whole entries
+    NotWholeEntries,
+    // more entries than a sub-packet may have
+    TooManyEntries,
+    // a value too large for its field's width
+    TooWide,
+    // a field whose value is not allowed, which starts at this bit
+    NotAllowed(usize),
+    // padding that is not zero, of which this bit is the first that is set
+    PaddingSet(usize),
+    // a distance that the form to which it is moved cannot say, which starts at this bit
+    DistanceStuck(usize),
 }
 
 // Where type, length and count start.
@@ -17,105 +41,47 @@ const LENGTH_AT: usize = 4;
 
 const COUNT_AT: usize = 11;
 
-// Where no field is at fault.
+// The place of a ground by which no field is at fault, and of no refusal.
 pub const NOWHERE: usize = 0;
 
 // The number of no refusal.
 pub const ACCEPTED: u32 = 0;
 
-pub const NONE: Refusal = Refusal {
-    number: ACCEPTED,
-    place: NOWHERE,
-};
+impl Refusal {
+    // The number that the ground has outside the bench; several share one.
+    pub fn number(self) -> u32
+        ensures { result ≡ (ground_of self).number }
+    {
+        match self {
+            Refusal::TooShort | Refusal::CutOff | Refusal::NoRoom => 1,
+            Refusal::WrongType => 2,
+            Refusal::LengthTooSmall
+            | Refusal::LengthNotForCount
+            | Refusal::TooManyToMove
+            | Refusal::NotWholeEntries
+            | Refusal::TooManyEntries => 3,
+            Refusal::TooWide | Refusal::NotAllowed(_) => 4,
+            Refusal::PaddingSet(_) => 5,
+            Refusal::DistanceStuck(_) => 6,
+        }
+    }
 
-// fewer than 2 bytes
-pub const TOO_SHORT: Refusal = Refusal {
-    number: 1,
-    place: NOWHERE,
-};
-
-// a type that does not exist, or not the one asked for
-pub const WRONG_TYPE: Refusal = Refusal {
-    number: 2,
-    place: TYPE_AT,
-};
-
-// a length below 2
-pub const LENGTH_TOO_SMALL: Refusal = Refusal {
-    number: 3,
-    place: LENGTH_AT,
-};
-
-// fewer bytes than the length says
-pub const CUT_OFF: Refusal = Refusal {
-    number: 1,
-    place: NOWHERE,
-};
-
-// a length that is not the one for the entries that the count says
-pub const LENGTH_NOT_FOR_COUNT: Refusal = Refusal {
-    number: 3,
-    place: COUNT_AT,
-};
-
-// an output too small
-pub const NO_ROOM: Refusal = Refusal {
-    number: 1,
-    place: NOWHERE,
-};
-
-// more gates than the form holds to which they are moved
-pub const TOO_MANY_TO_MOVE: Refusal = Refusal {
-    number: 3,
-    place: COUNT_AT,
-};
-
-// bytes outside a sub-packet that are no whole entries
-pub const NOT_WHOLE_ENTRIES: Refusal = Refusal {
-    number: 3,
-    place: NOWHERE,
-};
-
-// more entries than a sub-packet may have
-pub const TOO_MANY_ENTRIES: Refusal = Refusal {
-    number: 3,
-    place: NOWHERE,
-};
-
-// a value too large for its field's width
-pub const TOO_WIDE: Refusal = Refusal {
-    number: 4,
-    place: NOWHERE,
-};
-
-// a field whose value is not allowed, which starts at bit `place`
-pub fn not_allowed(place: usize) -> Refusal
-    ensures { result ≡ not_allowed place }
-{
-    Refusal { number: 4, place }
-}
-
-// padding that is not zero, of which bit `place` is the first that is set
-pub fn padding_set(place: usize) -> Refusal
-    ensures { result ≡ padding_set place }
-{
-    Refusal { number: 5, place }
-}
-
-// a distance that the form to which it is moved cannot say, which starts at bit `place`
-pub fn distance_stuck(place: usize) -> Refusal
-    ensures { result ≡ distance_stuck place }
-{
-    Refusal { number: 6, place }
-}
-
-// The first refusal, or else the next.
-pub fn or_else(first: Refusal, next: Refusal) -> Refusal
-    ensures { result ≡ or_else first next }
-{
-    if first.number == ACCEPTED {
-        next
-    } else {
-        first
+    // The first bit of the field at fault.
+    pub fn place(self) -> usize
+        ensures { result ≡ (ground_of self).place }
+    {
+        match self {
+            Refusal::WrongType => TYPE_AT,
+            Refusal::LengthTooSmall => LENGTH_AT,
+            Refusal::LengthNotForCount | Refusal::TooManyToMove => COUNT_AT,
+            Refusal::NotAllowed(bit) | Refusal::PaddingSet(bit) | Refusal::DistanceStuck(bit) =>
+                bit,
+            Refusal::TooShort
+            | Refusal::CutOff
+            | Refusal::NoRoom
+            | Refusal::NotWholeEntries
+            | Refusal::TooManyEntries
+            | Refusal::TooWide => NOWHERE,
+        }
     }
 }

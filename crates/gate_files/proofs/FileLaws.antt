@@ -9,7 +9,7 @@ use native.Mathlib.Omega.{arith}
 use lib.ListN.{length, take, drop, length-drop}
 use Rattle.numbers.proofs.FieldLaws.{field_lt}
 use Rattle.framing.specs.Refusals.{none, unless_refused}
-use Rattle.framing.specs.declared.refusals.Refusal.{Refusal}
+use Rattle.framing.specs.Refusals.{Refusal}
 use Rattle.framing.proofs.RefusalLaws.{unless-some}
 use Rattle.gates.specs.declared.forms.Form.{Form}
 use Rattle.gate_moving.specs.Moving.{move_into}

@@ -21,12 +21,13 @@ use Rattle.holding.specs.Held.{stretch, held_bytes, behind_by, is_end}
 use Rattle.holding.proofs.HeldLaws.{behind-held, not_end, is-end, none_left}
 use Rattle.gate_files.specs.declared.files.File.{File}
 use Rattle.gate_files.specs.Files.{FileMoved, longest, blank, first_moved, first_made, refusal_of, nothing_moved, moved_before, file_moved}
-use Rattle.gate_files.specs.Turns.{begun_file, most_packets, goes_on, stopped_at, moved_on, MovesFirst, IsTurn, with_written, Turns, begin, next, IsMoved}
+use Rattle.std.specs.Prelude.{None, Some}
+use Rattle.gate_files.specs.Turns.{refused_by, refusal_in, begun_file, most_packets, goes_on, stopped_at, moved_on, MovesFirst, IsTurn, with_written, Turns, begin, next, IsMoved}
 use Rattle.gate_files.proofs.FileLaws.{before-nothing, nothing-behind, before-before, file_none, file_next, answer-held, made_held}
 
 -- what is left of a file, where `rest` is still to be read
 abbrev to_come : Form → List ℕ → File → List ℕ → FileMoved
-to_come from rest file input = cond file.over (nothing_moved file.refusal) (file_moved from (held_bytes input file.held ++ rest))
+to_come from rest file input = cond file.over (nothing_moved (refusal_in file.refused)) (file_moved from (held_bytes input file.held ++ rest))
 
 -- the three ways that a turn goes: no sub-packet is there, the first one is refused, or it is moved
 module _ {from : Form} {file : File} {before after out : List ℕ} {r : File} (t : IsTurn from file before after out r) where
@@ -34,8 +35,8 @@ module _ {from : Form} {file : File} {before after out : List ℕ} {r : File} (t
   first = held_bytes after t.held
 
   pub data Went : Type 0 where
-    at_end : is_end t.held first ≡ true → r ≡ stopped_at file t.held none → take r.made out ≡ [] → Went
-    refused : is_end t.held first ≡ false → ((first_moved from first).answer ≡ 0 → ⊥) → r ≡ stopped_at file t.held (refusal_of (first_moved from first))
+    at_end : is_end t.held first ≡ true → r ≡ stopped_at file t.held None → take r.made out ≡ [] → Went
+    refused : is_end t.held first ≡ false → ((first_moved from first).answer ≡ 0 → ⊥) → r ≡ stopped_at file t.held (Some (refused_by (first_moved from first)))
         → take r.made out ≡ [] → Went
     moved : is_end t.held first ≡ false → (first_moved from first).answer ≡ 0 → r ≡ moved_on file t.held (first_moved from first)
         → take r.made out ≡ first_made from first → Went
@@ -44,13 +45,13 @@ module _ {from : Form} {file : File} {before after out : List ℕ} {r : File} (t
   went = of (is_end t.held first) refl (ℕ_discrete (first_moved from first).answer 0)
     where
       rest : File
-      rest = unless_refused (first_moved from first).answer (moved_on file t.held (first_moved from first)) (stopped_at file t.held (refusal_of (first_moved from first)))
+      rest = unless_refused (first_moved from first).answer (moved_on file t.held (first_moved from first)) (stopped_at file t.held (Some (refused_by (first_moved from first))))
 
       made : List ℕ
       made = unless_refused (first_moved from first).answer (first_made from first) []
 
-      by_end : (c : Bool) → is_end t.held first ≡ c → (r ≡ cond c (stopped_at file t.held none) rest) × (take r.made out ≡ cond c [] made)
-      by_end c e = (t.moves.result ∙ ap (λ (x : Bool). cond x (stopped_at file t.held none) rest) e, t.moves.text ∙ ap (λ (x : Bool). cond x [] made) e)
+      by_end : (c : Bool) → is_end t.held first ≡ c → (r ≡ cond c (stopped_at file t.held None) rest) × (take r.made out ≡ cond c [] made)
+      by_end c e = (t.moves.result ∙ ap (λ (x : Bool). cond x (stopped_at file t.held None) rest) e, t.moves.text ∙ ap (λ (x : Bool). cond x [] made) e)
 
       of : (c : Bool) → is_end t.held first ≡ c → Dec ((first_moved from first).answer ≡ 0) → Went
       of true e d = at_end e (by_end true e).0 (by_end true e).1
@@ -134,31 +135,31 @@ module _ {from : Form} {file : File} {before after out : List ℕ} {r : File} (t
 module _ (from : Form) (file : File) (held : Held) (first : List ℕ) where
   abbrev answered : File
   answered =
-      unless_refused (first_moved from first).answer (moved_on file held (first_moved from first)) (stopped_at file held (refusal_of (first_moved from first)))
+      unless_refused (first_moved from first).answer (moved_on file held (first_moved from first)) (stopped_at file held (Some (refused_by (first_moved from first))))
 
   abbrev made : List ℕ
   made = unless_refused (first_moved from first).answer (first_made from first) []
 
-  pub moves-none : (out : List ℕ) {r : File} → is_end held first ≡ true → r ≡ stopped_at file held none → MovesFirst from file held first out r
+  pub moves-none : (out : List ℕ) {r : File} → is_end held first ≡ true → r ≡ stopped_at file held None → MovesFirst from file held first out r
   moves-none out e k = record {
-    result = k ∙ ap (λ (b : Bool). cond b (stopped_at file held none) answered) (sym e);
+    result = k ∙ ap (λ (b : Bool). cond b (stopped_at file held None) answered) (sym e);
     text = ap (λ (q : File). take q.made out) k ∙ ap (λ (b : Bool). cond b [] made) (sym e);
   }
 
   -- `moved` is what the move answered, and `out` what it left
   module _ (moved : GatesMoved) (out : List ℕ) (e : is_end held first ≡ false) (says : moved ≡ first_moved from first) (left : out ≡ move_into from first blank) where
-    pub moves-refused : {r : File} → (moved.answer ≡ 0 → ⊥) → r ≡ stopped_at file held (refusal_of moved) → MovesFirst from file held first out r
+    pub moves-refused : {r : File} → (moved.answer ≡ 0 → ⊥) → r ≡ stopped_at file held (Some (refused_by moved)) → MovesFirst from file held first out r
     moves-refused ne k =
         let some : (first_moved from first).answer ≡ 0 → ⊥ = λ z. ne (ap (λ (a : GatesMoved). a.answer) says ∙ z) in record {
-          result = k ∙ ap (λ (a : GatesMoved). stopped_at file held (refusal_of a)) says ∙ sym (unless-some _ _ _ some)
-              ∙ ap (λ (b : Bool). cond b (stopped_at file held none) answered) (sym e);
+          result = k ∙ ap (λ (a : GatesMoved). stopped_at file held (Some (refused_by a))) says ∙ sym (unless-some _ _ _ some)
+              ∙ ap (λ (b : Bool). cond b (stopped_at file held None) answered) (sym e);
           text = ap (λ (q : File). take q.made out) k ∙ sym (unless-some _ _ _ some) ∙ ap (λ (b : Bool). cond b [] made) (sym e);
         }
 
     pub moves-one : {r : File} → moved.answer ≡ 0 → r ≡ moved_on file held moved → MovesFirst from file held first out r
     moves-one z k =
         let clear : (first_moved from first).answer ≡ 0 = sym (ap (λ (a : GatesMoved). a.answer) says) ∙ z in record {
-          result = k ∙ ap (moved_on file held) says ∙ sym (unless-none _ _ _ clear) ∙ ap (λ (b : Bool). cond b (stopped_at file held none) answered) (sym e);
+          result = k ∙ ap (moved_on file held) says ∙ sym (unless-none _ _ _ clear) ∙ ap (λ (b : Bool). cond b (stopped_at file held None) answered) (sym e);
           text = (λ i. take ((ap (λ (q : File). q.made) k ∙ ap (λ (a : GatesMoved). a.written) says) i) (left i)) ∙ sym (unless-none _ _ _ clear)
               ∙ ap (λ (b : Bool). cond b [] made) (sym e);
         }
@@ -194,7 +195,7 @@ so_far {from} (next {read} {sent} {before} {after} {out} {file} {r} turns going 
     ∙ so_far turns (t.ready.more ++ rest)
     (λ e. let closed = t.ready.closed e in
     ap₂ (λ (x y : List ℕ). x ++ y) closed.0 (shut (ended_same t ∙ ap (λ (h : Held). h.ended) closed.1 ∙ e)))
-    ∙ (λ i. moved_before sent file.packets file.used (cond ((goes_on_lem file going).0 i) (nothing_moved file.refusal) (file_moved from (kept i))))
+    ∙ (λ i. moved_before sent file.packets file.used (cond ((goes_on_lem file going).0 i) (nothing_moved (refusal_in file.refused)) (file_moved from (kept i))))
     ∙ turn-left t rest shut sent
   where
     kept : held_bytes before file.held ++ (t.ready.more ++ rest) ≡ held_bytes after t.held ++ rest
@@ -264,6 +265,6 @@ all_moved_lem {from} {start} {input} {file} g stop = record {
   moved = λ over.
       ap (file_moved from) (sym (append-nil g.read))
       ∙ so_far g.turns [] (λ e. refl)
-      ∙ ap (λ (b : Bool). moved_before g.sent file.packets file.used (cond b (nothing_moved file.refusal) (file_moved from (held_bytes input file.held ++ [])))) over
-      ∙ nothing-behind g.sent file.packets file.used file.refusal;
+      ∙ ap (λ (b : Bool). moved_before g.sent file.packets file.used (cond b (nothing_moved (refusal_in file.refused)) (file_moved from (held_bytes input file.held ++ [])))) over
+      ∙ nothing-behind g.sent file.packets file.used (refusal_in file.refused);
 }

@@ -1,7 +1,7 @@
 -- A FILE of gate sub-packets, one behind the other, moved to the other form: until nothing is left of it, or a sub-packet is refused.
 use Rattle.std.specs.Prelude.{ℕ, zero, suc, ◌+◌, List, [], ◌∷◌, ◌++◌, length, take, drop, replicate}
 use Rattle.framing.specs.Refusals.{none, unless_refused}
-use Rattle.framing.specs.declared.refusals.Refusal.{Refusal}
+use Rattle.framing.specs.Refusals.{Refusal}
 use Rattle.gates.specs.declared.forms.Form.{Form}
 use Rattle.gate_moving.specs.Moving.{move_answer, move_into}
 use Rattle.gate_moving.specs.declared.GatesMoved.{GatesMoved}

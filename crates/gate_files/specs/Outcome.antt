@@ -1,6 +1,5 @@
 -- How a file went, as the calling script is told.
-use Rattle.std.specs.Prelude.{not, cond, ℕ}
-use Rattle.framing.specs.Refusals.{unless_refused}
+use Rattle.std.specs.Prelude.{not, cond, is_some, ℕ}
 use Rattle.gate_files.specs.declared.files.File.{File}
 
 abbrev pub all_moved : ℕ  -- every sub-packet is moved
@@ -15,4 +14,4 @@ not_done = 2
 unfoldable pub outcome_of : File → ℕ
 outcome_of file =
     cond file.held.failed not_done
-    (cond (not file.writable) not_done (cond (not file.over) not_done (unless_refused file.refusal.number all_moved was_refused)))
+    (cond (not file.writable) not_done (cond (not file.over) not_done (cond (is_some file.refused) was_refused all_moved)))

@@ -1,16 +1,24 @@
 -- A FILE MOVED IN TURNS: what a turn reads, moves and hands to the system, and what the turns of a file come to.
 use mathlib.Core.{Bool.Bool, Bool.true, Bool.false, Bool.not, Bool.cond, Bool.◌&&◌, List.List, List.[], List.◌++◌, Path.◌≡◌}
-use Rattle.std.specs.Prelude.{ℕ, ◌+◌, ◌*◌, ◌≤◌, ◌<◌}
+use Rattle.std.specs.Prelude.{ℕ, ◌+◌, ◌*◌, ◌≤◌, ◌<◌, Option, None, Some}
 use lib.{Dec.ltb, ListN.take}
-use Rattle.framing.specs.{Refusals.none, Refusals.unless_refused, declared.refusals.Refusal.Refusal}
+use Rattle.framing.specs.{Refusals.none, Refusals.unless_refused, Refusals.Refusal}
 use Rattle.gates.specs.declared.forms.Form.{Form}
 use Rattle.gate_moving.specs.declared.GatesMoved.{GatesMoved}
 use Rattle.holding.specs.{declared.Held.Held, Held.held_bytes, Held.nothing_held, Held.behind_by, Held.is_end, Held.IsReady}
-use Rattle.gate_files.specs.{declared.files.File.File, Files.longest, Files.first_moved, Files.first_made, Files.refusal_of, Files.file_moved}
+use Rattle.gate_files.specs.{declared.files.File.File, declared.files.Refused.Refused, Files.longest, Files.first_moved, Files.first_made, Files.file_moved}
+
+-- why a sub-packet is refused, by the move's answer; and the refusal that this is, or none
+abbrev pub refused_by : GatesMoved → Refused
+refused_by moved = record { number = moved.answer; place = moved.place }
+
+abbrev pub refusal_in : Option Refused → Refusal
+refusal_in None = none
+refusal_in (Some refused) = record { number = refused.number; place = refused.place }
 
 -- a file of which nothing is read yet
 abbrev pub begun_file : File
-begun_file = record { held = nothing_held; packets = 0; used = 0; made = 0; refusal = none; over = false; writable = true }
+begun_file = record { held = nothing_held; packets = 0; used = 0; made = 0; refused = None; over = false; writable = true }
 
 abbrev pub most_packets : ℕ  -- the most sub-packets of a file
 most_packets = 4294967295
@@ -25,13 +33,13 @@ pub record CanGoOn (file : File) : Type 0 where
   pub short : file.used ≤ longest * file.packets
 
 -- no sub-packet is moved: the file is over, unless it could not be read
-abbrev pub stopped_at : File → Held → Refusal → File
-stopped_at file held refusal = record {
+abbrev pub stopped_at : File → Held → Option Refused → File
+stopped_at file held refused = record {
   held = held;
   packets = file.packets;
   used = file.used;
   made = 0;
-  refusal = refusal;
+  refused = refused;
   over = not held.failed;
   writable = file.writable;
 }
@@ -43,7 +51,7 @@ moved_on file held moved = record {
   packets = file.packets + 1;
   used = file.used + moved.used;
   made = moved.written;
-  refusal = none;
+  refused = None;
   over = false;
   writable = file.writable;
 }
@@ -51,8 +59,8 @@ moved_on file held moved = record {
 -- THE FIRST SUB-PACKET of what is held is moved, unless there is none: the file after it, and the bytes made
 pub record MovesFirst (from : Form) (file : File) (held : Held) (first out : List ℕ) (r : File) : Type 0 where
   pub result : r
-      ≡ cond (is_end held first) (stopped_at file held none)
-      (unless_refused (first_moved from first).answer (moved_on file held (first_moved from first)) (stopped_at file held (refusal_of (first_moved from first))))
+      ≡ cond (is_end held first) (stopped_at file held None)
+      (unless_refused (first_moved from first).answer (moved_on file held (first_moved from first)) (stopped_at file held (Some (refused_by (first_moved from first)))))
   pub text : take r.made out ≡ cond (is_end held first) [] (unless_refused (first_moved from first).answer (first_made from first) [])
 
 -- ONE TURN, but for the writing: what is held is made ready, and the first sub-packet of it is moved
@@ -68,7 +76,7 @@ with_written writable file = record {
   packets = file.packets;
   used = file.used;
   made = file.made;
-  refusal = file.refusal;
+  refused = file.refused;
   over = file.over;
   writable = writable;
 }
@@ -87,4 +95,4 @@ pub record IsMoved (from : Form) (start after : List ℕ) (r : File) : Type 0 wh
   pub sent : List ℕ
   pub turns : Turns from start read sent after r
   pub stopped : goes_on r ≡ false
-  pub moved : r.over ≡ true → file_moved from read ≡ record { written = sent; packets = r.packets; used = r.used; refusal = r.refusal }
+  pub moved : r.over ≡ true → file_moved from read ≡ record { written = sent; packets = r.packets; used = r.used; refusal = refusal_in r.refused }

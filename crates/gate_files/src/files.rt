@@ -5,7 +5,6 @@ ghost use Rattle.gate_files.specs.Files.{blank};
 ghost use Rattle.gate_files.specs.Turns.{begun_file, goes_on, stopped_at, with_written, CanGoOn, MovesFirst, IsTurn, IsMoved};
 
 use framing::refusals;
-use framing::refusals::Refusal;
 use gates::forms::Form;
 use holding::Held;
 use std::io::Read;
@@ -19,6 +18,13 @@ const LONGEST: usize = 127;
 // The most sub-packets of a file, so that every file comes to an end.
 const MOST_PACKETS: u32 = 4294967295;
 
+// Why a sub-packet is refused: the number that the move answers, and the place in the sub-packet.
+#[derive(Clone, Copy)]
+pub(crate) struct Refused {
+    pub number: u32,
+    pub place: usize,
+}
+
 // A file between two turns: what is held of it, the sub-packets that were moved, their bytes in the file, and the bytes that the last turn made. It is
 // over once nothing is left or a sub-packet is refused, and writable until a write fails.
 #[derive(Clone, Copy)]
@@ -27,7 +33,7 @@ pub(crate) struct File {
     pub packets: u32,
     pub used: u64,
     pub made: usize,
-    pub refusal: Refusal,
+    pub refused: Option<Refused>,
     pub over: bool,
     pub writable: bool,
 }
@@ -41,7 +47,7 @@ fn begun() -> File
         packets: 0,
         used: 0,
         made: 0,
-        refusal: refusals::NONE,
+        refused: None,
         over: false,
         writable: true,
     }
@@ -51,31 +57,19 @@ fn begun() -> File
 fn goes_on(file: File) -> bool
     ensures { result ≡ goes_on file }
 {
-    let held = file.held;
-    if file.over {
-        return false;
-    }
-    if held.failed {
-        return false;
-    }
-    if !file.writable {
-        return false;
-    }
-    file.packets < MOST_PACKETS
+    !file.over && !file.held.failed && file.writable && file.packets < MOST_PACKETS
 }
 
 // The same file where no sub-packet is moved.
-fn stopped(file: File, held: Held, refusal: Refusal) -> File
-    ensures { result ≡ stopped_at file held refusal }
+fn stopped(file: File, held: Held, refused: Option<Refused>) -> File
+    ensures { result ≡ stopped_at file held refused }
 {
     File {
-        held: held,
-        packets: file.packets,
-        used: file.used,
+        held,
         made: 0,
-        refusal: refusal,
+        refused,
         over: !held.failed,
-        writable: file.writable,
+        ..file
     }
 }
 
@@ -85,24 +79,24 @@ fn move_first(from: Form, file: File, held: Held, first: &[u8], out: &mut [u8]) 
     ensures { MovesFirst from file held first.now out.new result }
 {
     if held.is_end(first) {
-        return stopped(file, held, refusals::NONE);
+        return stopped(file, held, None);
     }
     let moved = gate_moving::move_gates(from, first, out);
     if moved.answer != refusals::ACCEPTED {
-        let refusal = Refusal {
+        let refused = Refused {
             number: moved.answer,
             place: moved.place,
         };
-        return stopped(file, held, refusal);
+        return stopped(file, held, Some(refused));
     }
     File {
         held: held.behind(moved.used),
         packets: file.packets + 1,
         used: file.used + moved.used as u64,
         made: moved.written,
-        refusal: refusals::NONE,
+        refused: None,
         over: false,
-        writable: file.writable,
+        ..file
     }
 }
 
@@ -111,8 +105,7 @@ fn step<R: Read>(reader: &mut R, from: Form, file: File, input: &mut [u8], out: 
     requires { CanGoOn file × (out.old ≡ blank) }
     ensures { IsTurn from file input.old input.new out.new result }
 {
-    let earlier = file.held;
-    let held = holding::ready(reader, input, earlier, LONGEST);
+    let held = holding::ready(reader, input, file.held, LONGEST);
     move_first(from, file, held, holding::part(input, held), out)
 }
 
@@ -120,18 +113,10 @@ fn step<R: Read>(reader: &mut R, from: Form, file: File, input: &mut [u8], out: 
 fn written(file: File, out: &[u8]) -> File
     ensures { result ≡ with_written result.writable file }
 {
-    let held = file.held;
-    let refusal = file.refusal;
-    let n = numbers::at_most(file.made, out.len());
-    let is_written = io::write_all(STDOUT_FILENO, &out[..n]);
+    let made = file.made.min(out.len());
     File {
-        held: held,
-        packets: file.packets,
-        used: file.used,
-        made: file.made,
-        refusal: refusal,
-        over: file.over,
-        writable: is_written,
+        writable: io::write_all(STDOUT_FILENO, &out[..made]),
+        ..file
     }
 }
 

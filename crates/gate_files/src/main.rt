@@ -9,28 +9,18 @@ use gates::forms::Form;
 use std::env::Env;
 
 // The form that is read, by the program's word.
-#[derive(Clone, Copy)]
-enum Way {
-    From(Form),
-    Unclear,
-}
-
-fn asked(rt: &HostRuntime) -> Way {
+fn asked(rt: &HostRuntime) -> Option<Form> {
     let mut word = io::buffer();
-    let Ok(n) = rt.arg(1, &mut word) else {
-        return Way::Unclear;
-    };
-    if check::same(&word[..n], b"forward") {
-        return Way::From(Form::Old);
+    let n = rt.arg(1, &mut word).ok()?;
+    match &word[..n] {
+        b"forward" => Some(Form::Old),
+        b"back" => Some(Form::New),
+        _ => None,
     }
-    if check::same(&word[..n], b"back") {
-        return Way::From(Form::New);
-    }
-    Way::Unclear
 }
 
 fn main(rt: HostRuntime) {
-    let Way::From(form) = asked(&rt) else {
+    let Some(form) = asked(&rt) else {
         telling::unclear();
         return;
     };

@@ -2,9 +2,7 @@
 ghost use Rattle.std.specs.Prelude.{◌≡◌};
 ghost use Rattle.gate_files.specs.Outcome.{outcome_of};
 
-use crate::files::File;
-use framing::refusals;
-use framing::refusals::Refusal;
+use crate::files::{File, Refused};
 
 // The descriptor of the standard error.
 const STDERR_FILENO: i32 = 2;
@@ -58,17 +56,17 @@ fn say_reason(answer: u32) {
     }
 }
 
-fn say_refused(file: File, refusal: Refusal) {
+fn say_refused(file: File, refused: Refused) {
     say(b"bench: sub-packet ");
     say_number(file.packets as u64 + 1);
     say(b" at byte ");
     say_number(file.used);
     say(b" is refused: answer ");
-    say_number(refusal.number as u64);
+    say_number(refused.number as u64);
     say(b", place ");
-    say_number(refusal.place as u64);
+    say_number(refused.place as u64);
     say(b": ");
-    say_reason(refusal.number);
+    say_reason(refused.number);
     say(b"\n");
 }
 
@@ -76,9 +74,7 @@ fn say_refused(file: File, refusal: Refusal) {
 fn outcome(file: File) -> u64
     ensures { result ≡ outcome_of file }
 {
-    let held = file.held;
-    let refusal = file.refusal;
-    if held.failed {
+    if file.held.failed {
         say(
             b"bench: the file cannot be read to its end; see whether it is a file, and its disk is sound\n",
         );
@@ -98,8 +94,8 @@ fn outcome(file: File) -> u64
         say(b" on, if anything does, by itself\n");
         return NOT_DONE;
     }
-    if refusal.number != refusals::ACCEPTED {
-        say_refused(file, refusal);
+    if let Some(refused) = file.refused {
+        say_refused(file, refused);
         return WAS_REFUSED;
     }
     ALL_MOVED

@@ -8,7 +8,7 @@ use lib.Dec.{ltb}
 use lib.ListN.{length, take}
 use Rattle.framing.specs.Refusals.{too_many_to_move, refuse, or_else, unless_refused}
 use Rattle.framing.specs.Framing.{length_of}
-use Rattle.framing.specs.declared.refusals.Refusal.{Refusal}
+use Rattle.framing.specs.Refusals.{Refusal}
 use Rattle.framing.proofs.RefusalLaws.{same_number, or_else-first, or_else-stop, unless-some}
 use Rattle.framing.proofs.BehindLaws.{length_front, head-front, unread, inside, there}
 use Rattle.profiles.specs.Profiles.{Profile, count_of, bytes_for, first_at}

@@ -5,7 +5,7 @@ use native.Mathlib.Omega.{arith}
 use borrow.Author.Tests.{ltb-false}
 use Rattle.framing.specs.Refusals.{none}
 use Rattle.framing.proofs.RefusalLaws.{or_else-first, or_else_then, refuse-none, not_below, last_not_below, tried, tested}
-use Rattle.framing.specs.declared.refusals.Refusal.{Refusal}
+use Rattle.framing.specs.Refusals.{Refusal}
 use Rattle.gates.specs.Forms.{layout_of, other_form}
 use Rattle.gates.specs.{declared.forms.Form.Form, declared.forms.Form.TheVariants.Old, declared.forms.Form.TheVariants.New}
 use Rattle.gates.proofs.GateLaws.{each_form}

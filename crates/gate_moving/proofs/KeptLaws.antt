@@ -11,7 +11,7 @@ use Rattle.numbers.specs.Pieces.{total, times, pack}
 use Rattle.numbers.proofs.FieldLaws.{Bytes}
 use Rattle.numbers.proofs.PieceLaws.{pack-append, pack_extra}
 use Rattle.framing.specs.Refusals.{none, or_else}
-use Rattle.framing.specs.declared.refusals.Refusal.{Refusal}
+use Rattle.framing.specs.Refusals.{Refusal}
 use Rattle.framing.proofs.RefusalLaws.{same_number, or_else_go, ends}
 use Rattle.gates.specs.Gates.{gate_bits, gate_widths}
 use Rattle.gates.specs.Forms.{layout_of, other_form}

@@ -10,7 +10,7 @@ use lib.ListN.{length}
 use Rattle.numbers.proofs.FieldLaws.{Bytes}
 use Rattle.framing.specs.Refusals.{too_many_to_move, refuse, or_else}
 use Rattle.framing.specs.Framing.{length_of, head_refusal}
-use Rattle.framing.specs.declared.refusals.Refusal.{Refusal}
+use Rattle.framing.specs.Refusals.{Refusal}
 use Rattle.framing.proofs.FramingLaws.{headed}
 use Rattle.framing.proofs.RefusalLaws.{same_number, or_else-first, or_else_then, or_else_assoc, ends, next, below, not_below, refuse-none, unless-none, unless-some}
 use Rattle.profiles.specs.Profiles.{Profile, count_of, bytes_for, first_at}

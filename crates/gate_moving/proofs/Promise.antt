@@ -9,7 +9,7 @@ use Rattle.numbers.specs.Pieces.{times, unpack}
 use Rattle.numbers.proofs.FieldLaws.{Bytes, field_lt}
 use Rattle.framing.specs.Refusals.{none, length_not_for_count}
 use Rattle.framing.specs.Framing.{length_of, head_refusal}
-use Rattle.framing.specs.declared.refusals.Refusal.{Refusal}
+use Rattle.framing.specs.Refusals.{Refusal}
 use Rattle.framing.proofs.PlaceLaws.{head-told, head_few}
 use Rattle.framing.proofs.RefusalLaws.{same_number, or_else-first, or_else_go, or_else-stop, next, ends, not_below, last_differ, last_not_below, along, tested, Clear, clear-or_else, unless-none, unless-some}
 use Rattle.profiles.specs.Profiles.{Profile, count_of, bytes_for}

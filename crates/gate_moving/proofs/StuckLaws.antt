@@ -9,7 +9,7 @@ use lib.ListN.{drop}
 use Rattle.numbers.specs.Fields.{field}
 use Rattle.numbers.specs.Pieces.{times, unpack}
 use Rattle.framing.specs.Refusals.{none, or_else}
-use Rattle.framing.specs.declared.refusals.Refusal.{Refusal}
+use Rattle.framing.specs.Refusals.{Refusal}
 use Rattle.framing.proofs.RefusalLaws.{same_number, or_else-first, or_else_then, or_else_go, or_else-stop}
 use Rattle.profiles.proofs.ProfileLaws.{drop-entry}
 use Rattle.gates.specs.Gates.{gate_bytes, gate_bits, gate_widths}

@@ -4,7 +4,7 @@ use Rattle.std.specs.Prelude.{ℕ, zero, suc, ◌+◌, ◌*◌, ◌/◌, ◌%◌
 use lib.{ListN.length, ListN.get_or, ListN.take, ListN.drop, Dec.ltb}
 use Rattle.framing.specs.Refusals.{nowhere, none, too_many_to_move, distance_stuck, refuse, or_else, unless_refused}
 use Rattle.framing.specs.Framing.{length_of, head_refusal}
-use Rattle.framing.specs.declared.refusals.Refusal.{Refusal}
+use Rattle.framing.specs.Refusals.{Refusal}
 use Rattle.profiles.specs.Profiles.{count_of, first_at, bytes_for}
 use Rattle.profiles.specs.Reading.{entries_of, read_refusal, room_refusal}
 use Rattle.profiles.specs.Writing.{written}

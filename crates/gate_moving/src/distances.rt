@@ -1,10 +1,9 @@
 // The distances of gates that are kept as the number that their bits are, judged and restated for the other form.
 ghost use Rattle.std.specs.Prelude.{◌≡◌, ◌+◌, ◌*◌, ◌%◌, ◌≤◌, length};
-ghost use Rattle.std.proofs.Math.Seq.{slice};
+ghost use Rattle.framing.specs.Told.{told};
 ghost use Rattle.gate_reading.specs.Steps.{digits, spread};
 ghost use Rattle.gate_moving.specs.Moving.{metres_of, distance_refusal, distances_refusal, restated_distance};
 
-use framing::refusals;
 use framing::refusals::Refusal;
 use gates::forms::Form;
 
@@ -15,37 +14,32 @@ fn metres_of(form: Form, gate: u64) -> u32
     (gate / gates::DISTANCE_WEIGHT % 65536) as u32 * form.layout().unit
 }
 
-// The refusal of a distance that starts at bit p and is to be said in the form `to`.
-fn distance_refusal(to: Form, p: usize, metres: u32) -> Refusal
-    ensures { result ≡ distance_refusal to p metres }
+// Judges a distance that starts at bit p and is to be said in the form `to`.
+fn judge_distance(to: Form, p: usize, metres: u32) -> Result<(), Refusal>
+    ensures { told result ≡ distance_refusal to p metres }
 {
     let layout = to.layout();
     if 0 < metres % layout.unit {
-        return refusals::distance_stuck(p);
+        return Err(Refusal::DistanceStuck(p));
     }
     if layout.farthest < metres {
-        return refusals::distance_stuck(p);
+        return Err(Refusal::DistanceStuck(p));
     }
-    refusals::NONE
+    Ok(())
 }
 
-// The first refusal of the distances of the first n gates that were kept.
-pub(crate) fn refusal(from: Form, kept: &[u64], n: usize) -> Refusal
-    requires { (n ≤ 31) × (n ≤ length kept.now) }
-    ensures { result ≡ distances_refusal from 16 (spread (slice 0 n kept.now)) n }
+// Judges the distances of gates that were kept, of which the first stands at bit 16.
+pub(crate) fn judge(from: Form, kept: &[u64]) -> Result<(), Refusal>
+    requires { length kept.now ≤ 31 }
+    ensures { told result ≡ distances_refusal from 16 (spread kept.now) (length kept.now) }
 {
-    let layout = from.layout();
+    let bits = gates::gate_bits(from.layout().distance);
     let mut p = 16;
-    let mut i = 0;
-    while i < n {
-        let refusal = distance_refusal(from.other(), p, metres_of(from, kept[i]));
-        if refusal.number != refusals::ACCEPTED {
-            return refusal;
-        }
-        p += gates::gate_bits(layout.distance);
-        i += 1;
+    for gate in kept {
+        judge_distance(from.other(), p, metres_of(from, *gate))?;
+        p += bits;
     }
-    refusals::NONE
+    Ok(())
 }
 
 // A gate with its distance said in the other form, as two bytes hold it.

@@ -4,12 +4,12 @@
 
 mod distances;
 
-ghost use Rattle.std.specs.Prelude.{◌≡◌, ◌≤◌, length};
-ghost use Rattle.std.proofs.Math.Seq.{slice};
+ghost use Rattle.std.specs.Prelude.{◌≡◌, ◌≤◌, length, IfOk};
 ghost use Rattle.numbers.specs.Pieces.{times, pack};
-ghost use Rattle.profiles.specs.Reading.{room_refusal};
+ghost use Rattle.framing.specs.Told.{ground_of, told};
+ghost use Rattle.profiles.specs.Profiles.{count_of};
 ghost use Rattle.gates.specs.Gates.{gate_widths};
-ghost use Rattle.gates.specs.Forms.{layout_of, other_form};
+ghost use Rattle.gates.specs.Forms.{layout_of, other_form, profile_in};
 ghost use Rattle.gate_reading.specs.Steps.{digits, spread, HoldsGates};
 ghost use Rattle.gate_moving.specs.Moving.{restated, packet_refusal, move_refusal, not_moved, move_answer, move_into};
 
@@ -18,7 +18,7 @@ use framing::refusals::Refusal;
 use gates::forms::Form;
 
 // What a move answers: 0 with the gates, the bytes of the sub-packet that was read and of the one that was written, or a refusal's number and place
-// with zeros. The place is counted in the sub-packet that was read.
+// with zeros. The place is counted in the sub-packet that was read. C reads it, so that numbers stand here and no `Result`.
 #[repr(C)]
 #[derive(Clone, Copy)]
 pub struct GatesMoved {
@@ -29,72 +29,62 @@ pub struct GatesMoved {
     pub written: usize,
 }
 
-fn not_moved(refusal: Refusal) -> GatesMoved
-    ensures { result ≡ not_moved refusal }
-{
-    GatesMoved {
-        answer: refusal.number,
-        place: refusal.place,
-        gates: 0,
-        used: 0,
-        written: 0,
+// The answer of a move that is refused.
+impl From<Refusal> for GatesMoved {
+    ghost from_gives = { λ refusal answer. answer ≡ not_moved (ground_of refusal) };
+
+    fn from(refusal: Refusal) -> GatesMoved {
+        GatesMoved {
+            answer: refusal.number(),
+            place: refusal.place(),
+            gates: 0,
+            used: 0,
+            written: 0,
+        }
     }
 }
 
-// The refusal of `bytes` bytes that are to be written into `room`.
-fn room_refusal(bytes: usize, room: usize) -> Refusal
-    ensures { result ≡ room_refusal bytes room }
-{
-    if room < bytes {
-        return refusals::NO_ROOM;
-    }
-    refusals::NONE
-}
-
-// The refusal of a sub-packet by itself, whatever becomes of it. Its gates are kept where there is none.
-fn packet_refusal(form: Form, s: &[u8], kept: &mut [u64; gate_reading::MOST_COUNTED]) -> Refusal
-    ensures value { result ≡ packet_refusal form s.now }
-    ensures holds_gates { result.number ≡ 0 → HoldsGates form s.now kept.new }
+// Judges a sub-packet by itself, whatever becomes of it. Its gates are kept where nothing refuses it.
+fn judge_packet(
+    form: Form,
+    s: &[u8],
+    kept: &mut [u64; gate_reading::MOST_COUNTED],
+) -> Result<(), Refusal>
+    ensures value { told result ≡ packet_refusal form s.now }
+    ensures holds_gates { IfOk result (λ _. HoldsGates form s.now kept.new) }
 {
     let count = gates::count_of(s);
     let bits = gates::bits_of(form.layout().distance, count as u32) as u32;
-    let shape = profiles::shape_refusal(s, gates::GATE_TYPE, bits);
-    if shape.number != refusals::ACCEPTED {
-        return shape;
-    }
+    profiles::judge_shape(s, gates::GATE_TYPE, bits)?;
     gate_reading::keep_gates(form, s, kept);
-    let rules = gate_reading::kept_refusal(form, s, kept);
+    gate_reading::judge_kept(form, s, kept)?;
     let outside = gates::GATE_BYTES * count;
-    refusals::or_else(rules, profiles::end_refusal(s, bits, outside, outside))
+    profiles::judge_end(s, bits, outside, outside)
 }
 
-// Keeps the gates that are to be moved, or answers why they cannot be moved into `room` bytes. Too many come with the header, before any gate is
-// judged.
+// Keeps the gates that are to be moved, and answers how many they are, or why they cannot be moved into `room` bytes. Too many come with the header,
+// before any gate is judged.
 fn take_gates(
     from: Form,
     s: &[u8],
     kept: &mut [u64; gate_reading::MOST_COUNTED],
     room: usize,
-) -> Refusal
-    ensures value { result ≡ move_refusal from s.now room }
-    ensures holds_gates { result.number ≡ 0 → HoldsGates from s.now kept.new × (length kept.new ≡ 31) }
+) -> Result<usize, Refusal>
+    ensures value { told result ≡ move_refusal from s.now room }
+    ensures count { IfOk result (λ n. (n ≡ count_of (profile_in from) s.now) × (n ≤ 31)) }
+    ensures holds_gates { IfOk result (λ _. HoldsGates from s.now kept.new) }
 {
-    let head = framing::head_refusal(s, gates::GATE_TYPE, gates::GATE_TYPE);
-    if head.number != refusals::ACCEPTED {
-        return head;
-    }
+    framing::judge_head(s, gates::GATE_TYPE, gates::GATE_TYPE)?;
     let count = gates::count_of(s);
     let to = from.other().layout();
     if to.most < count {
-        return refusals::TOO_MANY_TO_MOVE;
+        return Err(Refusal::TooManyToMove);
     }
-    let packet = packet_refusal(from, s, kept);
-    if packet.number != refusals::ACCEPTED {
-        return packet;
-    }
-    let distances = distances::refusal(from, kept, count);
+    judge_packet(from, s, kept)?;
     let bits = gates::bits_of(to.distance, count as u32) as u32;
-    refusals::or_else(distances, room_refusal(profiles::bytes_for(bits), room))
+    distances::judge(from, &kept[..count])?;
+    profiles::judge_room(profiles::bytes_for(bits), room)?;
+    Ok(count)
 }
 
 // Puts a gate that was kept from bit p on, in the other form.
@@ -105,18 +95,16 @@ fn put_gate(from: Form, gate: u64, out: &mut [u8], p: usize)
     fields::write_wide(out, p, bits, distances::restated(from, gate));
 }
 
-// Puts the first n gates that were kept from bit 16 on, in the other form.
-fn put_gates(from: Form, kept: &[u64], n: usize, out: &mut [u8])
-    requires { (n ≤ 31) × (n ≤ length kept.now) }
-    ensures { out.new ≡ pack out.old 16 (times n (gate_widths (layout_of (other_form from)).distance)) (restated from (spread (slice 0 n kept.now)) n) }
+// Puts gates that were kept from bit 16 on, in the other form.
+fn put_gates(from: Form, kept: &[u64], out: &mut [u8])
+    requires { length kept.now ≤ 31 }
+    ensures { out.new ≡ pack out.old 16 (times (length kept.now) (gate_widths (layout_of (other_form from)).distance)) (restated from (spread kept.now) (length kept.now)) }
 {
-    let to = from.other().layout();
+    let bits = gates::gate_bits(from.other().layout().distance);
     let mut p = 16;
-    let mut i = 0;
-    while i < n {
-        put_gate(from, kept[i], out, p);
-        p += gates::gate_bits(to.distance);
-        i += 1;
+    for gate in kept {
+        put_gate(from, *gate, out, p);
+        p += bits;
     }
 }
 
@@ -126,13 +114,12 @@ pub fn move_gates(from: Form, s: &[u8], out: &mut [u8]) -> GatesMoved
     ensures out_after { out.new ≡ move_into from s.now out.old }
 {
     let mut kept = [0u64; gate_reading::MOST_COUNTED];
-    let refusal = take_gates(from, s, &mut kept, out.len());
-    if refusal.number != refusals::ACCEPTED {
-        return not_moved(refusal);
-    }
-    let count = gates::count_of(s);
+    let count = match take_gates(from, s, &mut kept, out.len()) {
+        Ok(count) => count,
+        Err(refusal) => return GatesMoved::from(refusal),
+    };
     let written = gates::put_header(out, from.other().layout().distance, count as u32);
-    put_gates(from, &kept, count, out);
+    put_gates(from, &kept[..count], out);
     GatesMoved {
         answer: refusals::ACCEPTED,
         place: refusals::NOWHERE,

@@ -13,7 +13,7 @@ use Rattle.numbers.proofs.FieldLaws.{lt_or_le}
 use Rattle.numbers.proofs.PieceLaws.{total-times}
 use Rattle.numbers.proofs.WithinLaws.{field_within}
 use Rattle.framing.specs.Framing.{length_of}
-use Rattle.framing.specs.declared.refusals.Refusal.{Refusal}
+use Rattle.framing.specs.Refusals.{Refusal}
 use Rattle.framing.proofs.RefusalLaws.{tested, tried}
 use Rattle.fields.specs.FirstSet.{FirstOf}
 use Rattle.profiles.specs.Profiles.{Profile, count_of, padding_for}

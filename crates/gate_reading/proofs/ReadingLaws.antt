@@ -5,13 +5,15 @@ use Prim.Native.Nat.{ℕ, zero, suc, ◌+◌, ◌-◌, ◌*◌, ◌/◌, ◌%◌
 use native.Mathlib.Nat.{div-one, one-mul, lt_of_lt_of_le}
 use native.Mathlib.Numerals.{add-one}
 use native.Mathlib.Omega.{arith}
-use lib.ListN.{length, get_or, set, drop}
-use lib.Seq.{sets, sets-eq, slice, slice-cons, take_at}
+use Rattle.std.specs.Prelude.{Result, Ok, Err, is_err, true, false}
+use Rattle.std.proofs.lemmas.List.{take_all, append-nil}
+use lib.ListN.{length, get_or, set, take, drop, drop_of_length-le}
+use lib.Seq.{sets, sets-eq, length-sets, length-take-le, slice, slice-cons, take_at}
 use lib.Pow.{shr_mod, pow_mono}
 use Rattle.numbers.specs.Fields.{field}
 use Rattle.numbers.specs.Pieces.{total, times, unpack}
 use Rattle.framing.specs.Refusals.{none, no_room, or_else, unless_refused, moved_by}
-use Rattle.framing.specs.declared.refusals.Refusal.{Refusal}
+use Rattle.framing.specs.Refusals.{Refusal}
 use Rattle.framing.proofs.RefusalLaws.{same_number, or_else_go, next, ends, not_below, last_not_below}
 use Rattle.numbers.proofs.FieldLaws.{field-add, field_lt}
 use Rattle.numbers.proofs.PieceLaws.{length-unpack, length-times, unpack-append, sets-append}
@@ -20,7 +22,7 @@ use Rattle.profiles.specs.Profiles.{Profile, count_of, padding_for, rules_refusa
 use Rattle.profiles.specs.Reading.{entries_of, bits_of, end_refusal}
 use Rattle.profiles.proofs.ProfileLaws.{rules-none}
 use Rattle.profiles.proofs.ReadingLaws.{each, each_run}
-use Rattle.gates.specs.Gates.{gate_profile_with, gate_bytes, gate_widths, gate_bits, bits_with, gate_rules, gate_refusal}
+use Rattle.gates.specs.Gates.{gate_profile_with, gate_bytes, gate_widths, gate_bits, bits_with, gate_rules, gate_refusal, told_field}
 use Rattle.gates.proofs.GateLaws.{total-gate, widths_at_lem, bits-read}
 use Rattle.gate_reading.specs.Steps.{first_gates, digits, spread}
 
@@ -87,6 +89,15 @@ stored o k x =
     let more : List ℕ = drop 1 (digits x) in
     each_run (set o k first) k 1 more ∙ ap (λ (n : ℕ). sets (set o k first) n more) (add-one k)
 
+-- what a judgement of a gate's fields tells, by whether it is an error
+pub field_right : {T : Type 0} (r : Result T ℕ) → is_err r ≡ false → (told_field r).number ≡ 0
+field_right (Ok x) e = refl
+field_right (Err p) e = absurd (cc)
+
+pub field_wrong : {T : Type 0} (r : Result T ℕ) → is_err r ≡ true → (told_field r).number ≡ 0 → ⊥
+field_wrong (Ok x) e z = cc
+field_wrong (Err p) e z = omega arith
+
 -- ---- the walks over the gates, a turn at a time
 
 -- a gate kept, and then those behind it
@@ -139,6 +150,16 @@ module _ (kept : List ℕ) (i n : ℕ) (h : i < n) (long : n ≤ length kept) wh
   unfolding spread
   fill_more o k = sym (ap (λ (l : List ℕ). sets o k (spread l)) first-gate ∙ sets-append o k (digits gate) (spread behind))
 
+-- what is put at the front of a part that a list begins with is put at the front of the list
+pub front_kept : (kept gates : List ℕ) (n : ℕ) → length gates ≡ n → n ≤ length kept → sets (take n kept) 0 gates ++ drop n kept ≡ sets kept 0 gates
+front_kept kept gates n e h =
+    let long : length (take n kept) ≡ n = length-take-le n kept h in
+    let behind : drop (0 + length gates) (take n kept) ≡ [] = drop_of_length-le (take n kept) (omega arith) in
+    let at : 0 + length gates ≡ n = omega arith in
+    ap (λ (l : List ℕ). l ++ drop n kept) (sets-eq gates (take n kept) 0 (omega arith) ∙ ap (λ (l : List ℕ). gates ++ l) behind ∙ append-nil gates)
+    ∙ ap (λ (k : ℕ). gates ++ drop k kept) (sym at)
+    ∙ sym (sets-eq gates kept 0 (omega arith))
+
 -- ---- the gates taken
 
 module _ (distance : ℕ) (s : List ℕ) where
@@ -151,6 +172,14 @@ module _ (distance : ℕ) (s : List ℕ) where
       ap (λ (l : List ℕ). spread (slice 0 n l)) (sets-eq gates blank 0 (omega arith))
       ∙ ap spread (take_at gates (drop (0 + length gates) blank) n long)
       ∙ spread-unpack distance s wide narrow n 16
+
+  -- the same of gates that were kept where there is room for just as many
+  pub loaded : (kept : List ℕ) → 8 ≤ distance → distance ≤ 15
+      → spread (sets kept 0 (unpack s 16 (times (length kept) (gate_bits distance ∷ [])))) ≡ first_gates distance s (length kept)
+  loaded kept wide narrow =
+      let all : List ℕ = sets kept 0 (unpack s 16 (times (length kept) (gate_bits distance ∷ []))) in
+      ap spread (sym (take_all (length kept) all (omega (arith, length-sets kept 0 (unpack s 16 (times (length kept) (gate_bits distance ∷ [])))))))
+      ∙ kept_gates_lem (length kept) kept wide narrow (omega arith)
 
   -- with no gates there is no padding, and no room is needed
   none-refused : (room : ℕ) → none ≡ or_else (rules_refusal (gate_profile_with distance) 16 (first_gates distance s 0) 0) (end_refusal s (bits_with distance 0) (gate_bytes * 0) room)

@@ -1,17 +1,17 @@
 // Gate sub-packets read: everything is judged first, and stored afterwards, so that a refusal changes nothing. In between each gate is kept as the
-// one number that its bits are, so that it is loaded once. `distance` is the width of a gate's distance.
+// one number that its bits are, so that it is loaded once.
 #![tactic(auto)]
 
-ghost use Rattle.std.specs.Prelude.{◌≡◌, [], ◌∷◌, ◌+◌, ◌*◌, ◌≤◌, ◌<◌, length, get_or};
+ghost use Rattle.std.specs.Prelude.{◌≡◌, [], ◌∷◌, ◌+◌, ◌*◌, ◌≤◌, ◌<◌, length, get_or, MatchOption, IfOk};
 ghost use Rattle.std.proofs.lemmas.List.Edits.{sets};
-ghost use Rattle.std.proofs.Math.Seq.{slice};
-ghost use Rattle.numbers.specs.Fields.{field};
 ghost use Rattle.numbers.specs.Pieces.{times, unpack};
-ghost use Rattle.framing.specs.Refusals.{or_else, unless_refused};
-ghost use Rattle.profiles.specs.Profiles.{rules_refusal};
-ghost use Rattle.profiles.specs.Reading.{end_refusal, read_answer, read_into};
-ghost use Rattle.gates.specs.Gates.{gate_profile, gate_profile_with, gate_bytes, gate_bits, bits_with, gate_refusal};
-ghost use Rattle.gate_reading.specs.Steps.{first_gates, digits, spread, rules_from, kept_gates, HoldsGates, kept_refusal};
+ghost use Rattle.framing.specs.Refusals.{none, or_else, unless_refused};
+ghost use Rattle.framing.specs.Told.{told};
+ghost use Rattle.profiles.specs.Profiles.{count_of, rules_refusal};
+ghost use Rattle.profiles.specs.Reading.{entries_of, end_refusal, read_refusal, read_answer, read_into};
+ghost use Rattle.gates.specs.Gates.{gate_profile, gate_bytes, gate_bits, bits_with, gate_refusal, told_field};
+ghost use Rattle.gates.specs.Forms.{layout_of, profile_in};
+ghost use Rattle.gate_reading.specs.Steps.{first_gates, digits, spread, IsFirst, kept_gates, HoldsGates, kept_refusal};
 
 use framing::refusals;
 use framing::refusals::Refusal;
@@ -21,69 +21,57 @@ use profiles::EntriesRead;
 // The most gates that a count of 5 bits can say.
 pub const MOST_COUNTED: usize = 31;
 
-// The bits of the gate at bit p as one number. Its fields are digits of it, counted from the lowest, so that the width of the distance moves none.
-fn gate_at(s: &[u8], p: usize, distance: u8) -> u64
-    requires { distance ≤ 15 }
-    ensures { result ≡ field s.now p (gate_bits distance) }
+// Keeps the gates from bit 16 on, as many as there is room for, each as the number that its bits are. Its fields are digits of it, counted from the
+// lowest, so that the width of the distance moves none.
+fn load_gates(s: &[u8], form: Form, kept: &mut [u64])
+    requires { length kept.old ≤ 31 }
+    ensures { kept.new ≡ sets kept.old 0 (unpack s.now 16 (times (length kept.old) (gate_bits (layout_of form).distance ∷ []))) }
 {
-    fields::read_wide(s, p, gates::gate_bits(distance))
-}
-
-// Keeps n gates from bit 16 on.
-fn load_gates(s: &[u8], distance: u8, n: usize, kept: &mut [u64])
-    requires { (distance ≤ 15) × (n ≤ 31) × (n ≤ length kept.old) }
-    ensures { kept.new ≡ sets kept.old 0 (unpack s.now 16 (times n (gate_bits distance ∷ []))) }
-{
+    let bits = gates::gate_bits(form.layout().distance);
     let mut p = 16;
-    let mut i = 0;
-    while i < n {
-        kept[i] = gate_at(s, p, distance);
-        p += gates::gate_bits(distance);
-        i += 1;
+    for gate in kept.iter_mut() {
+        *gate = fields::read_wide(s, p, bits);
+        p += bits;
     }
 }
 
-// The refusal that a gate gets; its place is counted from the gate's first bit.
-fn gate_refusal(gate: u64, distance: u8) -> Refusal
-    ensures { result ≡ gate_refusal distance (digits gate) }
+// Judges a gate. What is handed out is the bit of the field at fault, counted from the gate's first bit.
+fn judge_gate(gate: u64, distance: u8) -> Result<(), usize>
+    ensures { told_field result ≡ gate_refusal distance (digits gate) }
 {
     let number = (gate / gates::NUMBER_WEIGHT % 1024) as u32;
     let suffix = (gate / gates::SUFFIX_WEIGHT % 8) as u32;
     let class = (gate / gates::CLASS_WEIGHT % 8) as u32;
     let whistle = (gate % 4) as u32;
-    gates::gate_rules(distance, number, suffix, class, whistle)
+    gates::judge_fields(distance, number, suffix, class, whistle)
 }
 
-// The first of n gates that is refused, or n. Only a number is asked for here, so that the compiler need not tell the fields apart.
-fn first_refused(kept: &[u64], distance: u8, n: usize) -> usize
-    requires { (8 ≤ distance) × (n ≤ 31) × (n ≤ length kept.now) }
-    ensures first { (result ≤ n) × (rules_from distance kept.now n result ≡ rules_refusal (gate_profile_with distance) 16 (spread (slice 0 n kept.now)) n) }
-    ensures refused { result < n → (gate_refusal distance (digits (get_or kept.now result 0))).number ≡ 0 → ⊥ }
+// The first of the gates that is refused. Only this is asked here, so that the compiler need not tell the fields apart.
+fn first_refused(kept: &[u64], form: Form) -> Option<usize>
+    requires { length kept.now ≤ 31 }
+    ensures { MatchOption result (none ≡ rules_refusal (profile_in form) 16 (spread kept.now) (length kept.now)) (IsFirst form kept.now) }
 {
-    let mut i = 0;
-    while i < n {
-        let refusal = gate_refusal(kept[i], distance);
-        if refusal.number != refusals::ACCEPTED {
-            return i;
+    let distance = form.layout().distance;
+    for (i, gate) in kept.iter().enumerate() {
+        if judge_gate(*gate, distance).is_err() {
+            return Some(i);
         }
-        i += 1;
     }
-    i
+    None
 }
 
-// The first refusal of n gates from bit 16 on.
-fn rules_refusal(kept: &[u64], distance: u8, n: usize) -> Refusal
-    requires { (8 ≤ distance) × (n ≤ 31) × (n ≤ length kept.now) }
-    ensures { result ≡ rules_refusal (gate_profile_with distance) 16 (spread (slice 0 n kept.now)) n }
+// Judges the gates, of which the first stands at bit 16.
+fn judge_gates(kept: &[u64], form: Form) -> Result<(), Refusal>
+    requires { length kept.now ≤ 31 }
+    ensures { told result ≡ rules_refusal (profile_in form) 16 (spread kept.now) (length kept.now) }
 {
-    let i = first_refused(kept, distance, n);
-    if i == n {
-        return refusals::NONE;
-    }
-    let refusal = gate_refusal(kept[i], distance);
-    Refusal {
-        number: refusal.number,
-        place: gates::bits_of(distance, i as u32) + refusal.place,
+    let Some(i) = first_refused(kept, form) else {
+        return Ok(());
+    };
+    let distance = form.layout().distance;
+    match judge_gate(kept[i], distance) {
+        Ok(()) => Ok(()),
+        Err(bit) => Err(Refusal::NotAllowed(gates::bits_of(distance, i as u32) + bit)),
     }
 }
 
@@ -91,14 +79,14 @@ fn rules_refusal(kept: &[u64], distance: u8, n: usize) -> Refusal
 pub fn keep_gates(form: Form, s: &[u8], kept: &mut [u64; MOST_COUNTED])
     ensures { (kept.new ≡ kept_gates form s.now kept.old) × HoldsGates form s.now kept.new }
 {
-    load_gates(s, form.layout().distance, gates::count_of(s), kept);
+    load_gates(s, form, &mut kept[..gates::count_of(s)]);
 }
 
-// The first refusal of the gates that were kept.
-pub fn kept_refusal(form: Form, s: &[u8], kept: &[u64; MOST_COUNTED]) -> Refusal
-    ensures { result ≡ kept_refusal form s.now kept.now }
+// Judges the gates that were kept.
+pub fn judge_kept(form: Form, s: &[u8], kept: &[u64; MOST_COUNTED]) -> Result<(), Refusal>
+    ensures { told result ≡ kept_refusal form s.now kept.now }
 {
-    rules_refusal(kept, form.layout().distance, gates::count_of(s))
+    judge_gates(&kept[..gates::count_of(s)], form)
 }
 
 // Stores the 9 bytes of a gate from byte `at` on.
@@ -119,40 +107,46 @@ fn fill_gate(gate: u64, out: &mut [u8], at: usize)
     out[at + 8] = (gate % 4) as u8;
 }
 
-// Stores the bytes of n gates.
-fn fill_gates(kept: &[u64], n: usize, out: &mut [u8])
-    requires { (n ≤ 31) × (n ≤ length kept.now) × (gate_bytes * n ≤ length out.old) }
-    ensures { out.new ≡ sets out.old 0 (spread (slice 0 n kept.now)) }
+// Stores the bytes of the gates.
+fn fill_gates(kept: &[u64], out: &mut [u8])
+    requires { (length kept.now ≤ 31) × (gate_bytes * length kept.now ≤ length out.old) }
+    ensures { out.new ≡ sets out.old 0 (spread kept.now) }
 {
-    let mut i = 0;
-    while i < n {
-        fill_gate(kept[i], out, gates::GATE_BYTES * i);
-        i += 1;
+    for (i, gate) in kept.iter().enumerate() {
+        fill_gate(*gate, out, gates::GATE_BYTES * i);
     }
 }
 
-// Reads n gates from bit 16 on into `out`, or answers why not. Where there is none, nothing is left that could refuse.
-fn take_gates(s: &[u8], distance: u8, n: usize, out: &mut [u8]) -> Refusal
-    requires { (8 ≤ distance) × (distance ≤ 15) × (n ≤ 31) }
-    ensures value { result ≡ or_else (rules_refusal (gate_profile_with distance) 16 (first_gates distance s.now n) n) (end_refusal s.now (bits_with distance n) (gate_bytes * n) (length out.old)) }
-    ensures out_after { out.new ≡ unless_refused result.number (sets out.old 0 (first_gates distance s.now n)) out.old }
+// Reads n gates from bit 16 on into `out`. Where there is none, nothing is left that could refuse.
+fn take_gates(s: &[u8], form: Form, n: usize, out: &mut [u8]) -> Result<(), Refusal>
+    requires { n ≤ 31 }
+    ensures value { told result ≡ or_else (rules_refusal (profile_in form) 16 (first_gates (layout_of form).distance s.now n) n) (end_refusal s.now (bits_with (layout_of form).distance n) (gate_bytes * n) (length out.old)) }
+    ensures out_after { out.new ≡ unless_refused (told result).number (sets out.old 0 (first_gates (layout_of form).distance s.now n)) out.old }
 {
     if n == 0 {
-        return refusals::NONE;
+        return Ok(());
     }
-    let mut kept = [0u64; MOST_COUNTED];
-    load_gates(s, distance, n, &mut kept);
-    let rules = rules_refusal(&kept, distance, n);
-    if rules.number != refusals::ACCEPTED {
-        return rules;
-    }
-    let bits = gates::bits_of(distance, n as u32) as u32;
-    let end = profiles::end_refusal(s, bits, gates::GATE_BYTES * n, out.len());
-    if end.number != refusals::ACCEPTED {
-        return end;
-    }
-    fill_gates(&kept, n, out);
-    refusals::NONE
+    let mut room = [0u64; MOST_COUNTED];
+    let kept = &mut room[..n];
+    load_gates(s, form, kept);
+    judge_gates(kept, form)?;
+    let bits = gates::bits_of(form.layout().distance, n as u32) as u32;
+    profiles::judge_end(s, bits, gates::GATE_BYTES * n, out.len())?;
+    fill_gates(kept, out);
+    Ok(())
+}
+
+// Reads the sub-packet into `out`, and answers how many gates it has.
+fn read_packet(s: &[u8], out: &mut [u8]) -> Result<usize, Refusal>
+    ensures value { told result ≡ read_refusal gate_profile s.now (length out.old) }
+    ensures count { IfOk result (λ n. n ≡ count_of gate_profile s.now) }
+    ensures out_after { out.new ≡ unless_refused (told result).number (sets out.old 0 (entries_of gate_profile s.now)) out.old }
+{
+    let count = gates::count_of(s);
+    let bits = gates::bits_of(gates::DISTANCE_WIDTH, count as u32) as u32;
+    profiles::judge_shape(s, gates::GATE_TYPE, bits)?;
+    take_gates(s, Form::New, count, out)?;
+    Ok(count)
 }
 
 // Reads the gate sub-packet that `s` begins with into `out`, 9 bytes for each gate. What follows the sub-packet is ignored, and what lies
@@ -161,20 +155,13 @@ pub fn read_gates(s: &[u8], out: &mut [u8]) -> EntriesRead
     ensures value { result ≡ read_answer gate_profile s.now out.old }
     ensures out_after { out.new ≡ read_into gate_profile s.now out.old }
 {
-    let count = gates::count_of(s);
-    let bits = gates::bits_of(gates::DISTANCE_WIDTH, count as u32) as u32;
-    let shape = profiles::shape_refusal(s, gates::GATE_TYPE, bits);
-    if shape.number != refusals::ACCEPTED {
-        return profiles::refused(shape);
-    }
-    let refusal = take_gates(s, gates::DISTANCE_WIDTH, count, out);
-    if refusal.number != refusals::ACCEPTED {
-        return profiles::refused(refusal);
-    }
-    EntriesRead {
-        answer: refusals::ACCEPTED,
-        place: refusals::NOWHERE,
-        entries: count,
-        bytes: framing::length_of(s),
+    match read_packet(s, out) {
+        Ok(entries) => EntriesRead {
+            answer: refusals::ACCEPTED,
+            place: refusals::NOWHERE,
+            entries,
+            bytes: framing::length_of(s),
+        },
+        Err(refusal) => EntriesRead::from(refusal),
     }
 }

@@ -4,14 +4,14 @@ use mathlib.Core.List.{List, ◌∷◌, ◌++◌}
 use mathlib.Core.Bool.{Bool, true, false}
 use mathlib.Core.Logic.{◌⊎◌, inl, inr}
 use Prim.Native.Nat.{ℕ, ◌+◌, ◌-◌, ◌*◌, ◌≤◌, ◌<◌}
-use native.Mathlib.Nat.{mul-le-mul, mul-suc}
+use native.Mathlib.Nat.{mul-suc}
 use native.Mathlib.Numerals.{add-one}
 use native.Mathlib.Omega.{arith}
 use lib.Dec.{ltb}
 use lib.ListN.{length, get_or, get_or-append}
 use Rattle.numbers.specs.Pieces.{total, times}
 use Rattle.framing.specs.Refusals.{none, not_allowed, refuse, or_else, unless_refused}
-use Rattle.framing.specs.declared.refusals.Refusal.{Refusal}
+use Rattle.framing.specs.Refusals.{Refusal}
 use Rattle.framing.proofs.RefusalLaws.{tested, tried}
 use Rattle.profiles.specs.Profiles.{count_of, bytes_for, widths_at, widths_of}
 use Rattle.profiles.specs.Reading.{bits_of}
@@ -39,10 +39,6 @@ pub bits-suc : (distance n : ℕ) → bits_with distance (n + 1) ≡ bits_with d
 bits-suc distance n =
     let e : gate_bits distance * (n + 1) ≡ gate_bits distance * n + gate_bits distance = ap (λ (m : ℕ). gate_bits distance * m) (add-one n) ∙ mul-suc (gate_bits distance) n in
     omega (arith, e)
-
--- the gates' bits stay few
-pub product_small : (distance n : ℕ) → distance ≤ 255 → gate_bits distance * n ≤ 275 * n
-product_small distance n h = mul-le-mul {n₁ = gate_bits distance} {m₁ = n} {n₂ = 275} {m₂ = n} (omega arith) (omega arith)
 
 -- a gate's rules refuse nothing, or a field within the gate: what holds of both holds of their refusal
 pub rules_hold : (P : Refusal → Type 0) (distance number suffix class whistle : ℕ) → P none → ((p : ℕ) → p < gate_bits distance → P (not_allowed p))

@@ -1,9 +1,8 @@
 -- Gates: their fields inside a sub-packet, their bytes outside it, and what is allowed. `distance` is the width of a gate's distance.
-use Rattle.std.specs.Prelude.{ℕ, ◌+◌, ◌-◌, ◌*◌, List, [], ◌∷◌}
+use Rattle.std.specs.Prelude.{ℕ, ◌+◌, ◌-◌, ◌*◌, List, [], ◌∷◌, Result, Ok, Err}
 use lib.{ListN.get_or, Dec.ltb}
 use Rattle.numbers.specs.{Pieces.pack, Numbers.put_number}
-use Rattle.framing.specs.Refusals.{not_allowed, refuse, or_else}
-use Rattle.framing.specs.declared.refusals.Refusal.{Refusal}
+use Rattle.framing.specs.Refusals.{Refusal, none, not_allowed, refuse, or_else}
 use Rattle.profiles.specs.Profiles.{Profile}
 
 abbrev pub gate_type : ℕ  -- the type of a gate sub-packet
@@ -69,6 +68,11 @@ gate_rules distance number suffix class whistle =
     (or_else (refuse (ltb last_number number) (not_allowed (number_at distance)))
     (or_else (refuse (ltb last_suffix suffix) (not_allowed (suffix_at distance)))
     (or_else (refuse (ltb last_class class) (not_allowed (class_at distance))) (refuse (ltb last_whistle whistle) (not_allowed (whistle_at distance))))))
+
+-- what a judgement of a gate's fields tells: the place of the first one that is not allowed
+abbrev pub told_field : {T : Type 0} → Result T ℕ → Refusal
+told_field (Ok x) = none
+told_field (Err p) = not_allowed p
 
 -- the rules on a gate's 9 bytes
 unfoldable pub gate_refusal : ℕ → List ℕ → Refusal

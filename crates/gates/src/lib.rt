@@ -5,10 +5,7 @@ pub mod forms;
 
 ghost use Rattle.std.specs.Prelude.{◌≡◌, ◌+◌, ◌*◌, ◌≤◌};
 ghost use Rattle.profiles.specs.Profiles.{count_of, bytes_for};
-ghost use Rattle.gates.specs.Gates.{gate_profile, gate_bits, bits_with, header_put, gate_rules};
-
-use framing::refusals;
-use framing::refusals::Refusal;
+ghost use Rattle.gates.specs.Gates.{gate_profile, gate_bits, bits_with, header_put, gate_rules, told_field};
 
 pub const GATE_TYPE: u32 = 3;
 
@@ -85,25 +82,31 @@ pub fn put_header(out: &mut [u8], distance: u8, n: u32) -> usize
     bytes
 }
 
-// The refusal that a gate's fields get; its place is counted from the gate's first bit.
-pub fn gate_rules(distance: u8, number: u32, suffix: u32, class: u32, whistle: u32) -> Refusal
-    ensures { result ≡ gate_rules distance number suffix class whistle }
+// Judges a gate's fields. What is handed out is the bit of the first one that is not allowed, counted from the gate's first bit.
+pub fn judge_fields(
+    distance: u8,
+    number: u32,
+    suffix: u32,
+    class: u32,
+    whistle: u32,
+) -> Result<(), usize>
+    ensures { told_field result ≡ gate_rules distance number suffix class whistle }
 {
     let number_at = distance as usize;
     if number < 1 {
-        return refusals::not_allowed(number_at);
+        return Err(number_at);
     }
     if LAST_NUMBER < number {
-        return refusals::not_allowed(number_at);
+        return Err(number_at);
     }
     if LAST_SUFFIX < suffix {
-        return refusals::not_allowed(number_at + SUFFIX_BEHIND);
+        return Err(number_at + SUFFIX_BEHIND);
     }
     if LAST_CLASS < class {
-        return refusals::not_allowed(number_at + CLASS_BEHIND);
+        return Err(number_at + CLASS_BEHIND);
     }
     if LAST_WHISTLE < whistle {
-        return refusals::not_allowed(number_at + WHISTLE_BEHIND);
+        return Err(number_at + WHISTLE_BEHIND);
     }
-    refusals::NONE
+    Ok(())
 }

@@ -8,6 +8,7 @@
 
 ghost use Rattle.std.specs.Prelude.{◌≡◌, ◌<◌, ◌≤◌, length};
 
+use framing::refusals;
 use gates::forms::Form;
 use profiles::{EntriesRead, EntriesWritten};
 
@@ -26,10 +27,8 @@ fn print_number(n: usize) {
 }
 
 fn print_bytes(s: &[u8]) {
-    let mut i = 0;
-    while i < s.len() {
-        io::print_hex(STDOUT_FILENO, numbers::byte_at(s, i) as u64, 2);
-        i += 1;
+    for byte in s {
+        io::print_hex(STDOUT_FILENO, *byte as u64, 2);
     }
 }
 
@@ -43,10 +42,13 @@ fn print_kind(kind: usize, answer: u32) {
 }
 
 fn run_frame(s: &[u8]) {
-    let refusal = framing::frame_refusal(s);
+    let (answer, place) = match framing::judge_frame(s) {
+        Ok(()) => (refusals::ACCEPTED, refusals::NOWHERE),
+        Err(refusal) => (refusal.number(), refusal.place()),
+    };
     let sub = framing::frame(s);
-    print_kind(1, refusal.number);
-    print_number(refusal.place);
+    print_kind(1, answer);
+    print_number(place);
     print_number(sub.len());
     print_bytes(sub);
     end_line();
@@ -112,6 +114,7 @@ fn small(n: u32) -> usize
     (n % 65536) as usize
 }
 
+// A kind stays the number that the input has: the line tells it again.
 fn run_kind(kind: u32, s: &[u8], out: &mut [u8]) {
     match kind {
         1 => run_frame(s),
@@ -129,14 +132,15 @@ fn run_case(s: &[u8]) -> usize
     ensures { (0 < result) × (result ≤ 65540) }
 {
     let next = HEADER + small(numbers::half_at(s, 3));
-    let end = numbers::at_most(next, s.len());
-    let start = numbers::at_most(HEADER, end);
-    let room = numbers::at_most(small(numbers::half_at(s, 1)), MOST_ROOM);
+    let end = next.min(s.len());
+    let start = HEADER.min(end);
+    let room = small(numbers::half_at(s, 1)).min(MOST_ROOM);
     let mut out = fresh_output();
     run_kind(numbers::byte_at(s, 0), &s[start..end], &mut out[..room]);
     next
 }
 
+// A `for` is no plainer here: each case tells where the next one starts.
 fn run_all(s: &[u8]) {
     let mut at = 0;
     while at < s.len() {

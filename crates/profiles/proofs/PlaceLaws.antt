@@ -12,7 +12,7 @@ use Rattle.fields.specs.FirstSet.{FirstOf}
 use Rattle.fields.proofs.FirstSetLaws.{first_of}
 use Rattle.framing.specs.Refusals.{length_at, count_at, none, length_not_for_count, or_else, moved_by}
 use Rattle.framing.specs.Framing.{length_of, head_refusal}
-use Rattle.framing.specs.declared.refusals.Refusal.{Refusal}
+use Rattle.framing.specs.Refusals.{Refusal}
 use Rattle.framing.proofs.RefusalLaws.{same_number, or_else_go, or_else-stop, or_else_assoc, differ, along, tested, unless-none, unless-some}
 use Rattle.framing.proofs.FramingLaws.{headed}
 use Rattle.framing.proofs.PlaceLaws.{HeadTold, no_field, head-told, head-zero, head-other, head_few}

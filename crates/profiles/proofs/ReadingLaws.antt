@@ -13,9 +13,9 @@ use Rattle.numbers.proofs.FieldLaws.{field-zero}
 use Rattle.numbers.proofs.PieceLaws.{length-unpack}
 use Rattle.numbers.proofs.WithinLaws.{field_within}
 use Rattle.framing.specs.Refusals.{or_else, unless_refused}
-use Rattle.framing.specs.declared.refusals.Refusal.{Refusal}
+use Rattle.framing.specs.Refusals.{Refusal}
 use Rattle.framing.specs.Framing.{length_of}
-use Rattle.framing.proofs.RefusalLaws.{Clear, clear-refuse, clear-or_else, same_number, or_else-first, or_else_then, next, ends, refuse-none, unless-none, unless-some}
+use Rattle.framing.proofs.RefusalLaws.{same_number, or_else-first, or_else_then, next, ends, refuse-none, unless-none, unless-some}
 use Rattle.framing.proofs.FramingLaws.{Headed, headed}
 use Rattle.profiles.specs.Profiles.{Profile, count_of, first_at, bytes_for, padding_for, widths_at, rules_refusal}
 use Rattle.profiles.specs.Reading.{entries_of, bits_of, shape_refusal, end_refusal, read_refusal, read_with, refused_for, read_answer, read_into}
@@ -55,10 +55,6 @@ shape_right kind s bits e = eqb-true _ _ (not-false _ (refuse-none _ _ _ (or_els
 pub end-room : (s : List ℕ) (bits bytes room : ℕ) → (end_refusal s bits bytes room).number ≡ 0 → bytes ≤ room
 unfolding end_refusal
 end-room s bits bytes room e = ltb-false _ _ (refuse-none _ _ _ (or_else_then _ _ e))
-
-pub end-clear : (s : List ℕ) (bits bytes room : ℕ) → Clear (end_refusal s bits bytes room)
-unfolding end_refusal
-end-clear s bits bytes room = clear-or_else _ _ (clear-refuse _ _ _)
 
 -- a read that is not refused
 pub record Accepted (f : Profile) (s : List ℕ) (room : ℕ) : Type 0 where
@@ -107,27 +103,6 @@ module _ (f : Profile) (s o : List ℕ) where
         let out : after ≡ all ++ drop (f.pieces * count_of f s) o =
         eo ∙ sets-eq all o 0 (omega (arith, (accepted f s (length o) h).fits)) ∙ ap (λ (m : ℕ). all ++ drop m o) (zero-add (length all) ∙ long) in
         (ap₂ read_with en eb ∙ sym (unless-none _ _ _ h), out ∙ sym (unless-none _ _ _ h))
-
-  module _ (shape : Refusal) (es : shape ≡ shape_refusal f.kind s (bits_of f s)) where
-    pub shape_refused : (shape.number ≡ 0 → ⊥) → (refused_for shape ≡ read_answer f s o) × (o ≡ read_into f s o)
-    unfolding read_refusal
-    shape_refused ne = read-refused shape (ends _ _ es ne) ne
-
-    module _ (zs : shape.number ≡ 0) (a : Refusal) (after : List ℕ)
-        (ea : a ≡ or_else (rules_refusal f (first_at f) (entries_of f s) (count_of f s)) (end_refusal s (bits_of f s) (f.pieces * count_of f s) (length o)))
-        (eo : after ≡ unless_refused a.number (sets o 0 (entries_of f s)) o) where
-      answer_eq : a ≡ read_refusal f s (length o)
-      unfolding read_refusal
-      answer_eq = next _ _ (sym (same_number es) ∙ zs) ea
-
-      pub entries_refused : (a.number ≡ 0 → ⊥) → (refused_for a ≡ read_answer f s o) × (after ≡ read_into f s o)
-      entries_refused ne =
-          let r = read-refused a answer_eq ne in
-          (r.0, eo ∙ unless-some _ _ _ ne ∙ r.1)
-
-      pub read-accepted : Regular f → a.number ≡ 0 → (n bytes : ℕ) → n ≡ count_of f s → bytes ≡ length_of s
-          → (read_with n bytes ≡ read_answer f s o) × (after ≡ read_into f s o)
-      read-accepted reg z n bytes en eb = read_stored a answer_eq reg z n bytes after en eb (eo ∙ unless-none _ _ _ z)
 
 -- ---- the bytes of an entry, stored
 

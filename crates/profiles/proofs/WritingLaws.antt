@@ -18,7 +18,7 @@ use Rattle.numbers.proofs.FieldLaws.{Bytes, bytes-put, lt_or_le}
 use Rattle.numbers.proofs.PieceLaws.{total-append, pack-append, pack_extra}
 use Rattle.numbers.proofs.JoinedLaws.{put_cleared, joined, pack_joined}
 use Rattle.framing.specs.Refusals.{none, too_wide, refuse, or_else, unless_refused, untold}
-use Rattle.framing.specs.declared.refusals.Refusal.{Refusal}
+use Rattle.framing.specs.Refusals.{Refusal}
 use Rattle.framing.proofs.RefusalLaws.{same_number, or_else-first, or_else_then, or_else_go, along, tested, ends, refuse-none, unless-none, unless-some}
 use Rattle.profiles.specs.Profiles.{Profile, first_at, padding_for, widths_for, widths_of}
 use Rattle.profiles.specs.Writing.{entries_in, bits_for, size_for, packet_widths, packet_values, written, widths_refusal, entry_refusal, list_refusal, write_refusal, written_with, not_written, write_answer, write_into}

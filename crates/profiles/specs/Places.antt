@@ -1,7 +1,7 @@
 -- What the place of a refused read tells of the entries, said by itself: which of them is the first that the rules refuse, and where it stands.
 use Rattle.std.specs.Prelude.{◌≡◌, List, ℕ, ◌+◌, ◌<◌}
 use Rattle.numbers.specs.{Fields.field, Pieces.total, Pieces.unpack}
-use Rattle.framing.specs.declared.refusals.Refusal.{Refusal}
+use Rattle.framing.specs.Refusals.{Refusal}
 use Rattle.profiles.specs.Profiles.{Profile, widths_for, widths_at}
 
 -- where entry i starts, behind those before it; entries are counted from 0, and the first of them starts at bit p

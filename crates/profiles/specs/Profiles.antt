@@ -4,7 +4,7 @@
 use Rattle.std.specs.Prelude.{ℕ, zero, suc, ◌+◌, ◌-◌, ◌*◌, ◌/◌, List, [], ◌∷◌, ◌++◌, get_or, drop}
 use Rattle.numbers.specs.{Fields.field, Pieces.total}
 use Rattle.framing.specs.Refusals.{count_at, none, or_else, moved_by}
-use Rattle.framing.specs.declared.refusals.Refusal.{Refusal}
+use Rattle.framing.specs.Refusals.{Refusal}
 
 pub record Profile : Type 0 where
   pub kind : ℕ  -- the type

@@ -6,7 +6,7 @@ use Rattle.numbers.specs.{Fields.field, Pieces.total, Pieces.unpack}
 use Rattle.fields.specs.FirstSet.{first_set}
 use Rattle.framing.specs.Refusals.{nowhere, length_not_for_count, padding_set, no_room, refuse, or_else, unless_refused}
 use Rattle.framing.specs.Framing.{length_of, head_refusal}
-use Rattle.framing.specs.declared.refusals.Refusal.{Refusal}
+use Rattle.framing.specs.Refusals.{Refusal}
 use Rattle.profiles.specs.Profiles.{Profile, count_of, first_at, bytes_for, padding_for, widths_at, rules_refusal}
 use Rattle.profiles.specs.declared.EntriesRead.{EntriesRead}
 

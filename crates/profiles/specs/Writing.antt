@@ -3,7 +3,7 @@ use Rattle.std.specs.Prelude.{ℕ, zero, suc, ◌+◌, ◌/◌, ◌%◌, ◌^◌
 use lib.{ListN.length, ListN.get_or, ListN.drop, Dec.ltb, Dec.leb}
 use Rattle.numbers.specs.Pieces.{total, pack}
 use Rattle.framing.specs.Refusals.{none, not_whole_entries, too_many_entries, too_wide, no_room, refuse, or_else, unless_refused, untold}
-use Rattle.framing.specs.declared.refusals.Refusal.{Refusal}
+use Rattle.framing.specs.Refusals.{Refusal}
 use Rattle.profiles.specs.Profiles.{Profile, first_at, bytes_for, padding_for, widths_for, widths_of}
 use Rattle.profiles.specs.declared.EntriesWritten.{EntriesWritten}
 

@@ -9,7 +9,7 @@ use native.Mathlib.Omega.{arith}
 use Rattle.numbers.specs.Pieces.{unpack}
 use Rattle.framing.specs.Refusals.{not_allowed, refuse}
 use Rattle.framing.specs.Framing.{length_of}
-use Rattle.framing.specs.declared.refusals.Refusal.{Refusal}
+use Rattle.framing.specs.Refusals.{Refusal}
 use Rattle.framing.proofs.RefusalLaws.{same_number}
 use Rattle.profiles.specs.Profiles.{count_of}
 use Rattle.profiles.specs.Reading.{read_answer}

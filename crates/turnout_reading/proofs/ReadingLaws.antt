@@ -15,7 +15,7 @@ use Rattle.numbers.proofs.FieldLaws.{field_lt, field-add}
 use Rattle.numbers.proofs.PieceLaws.{sets-append}
 use Rattle.numbers.proofs.WithinLaws.{cut, unpack_cut}
 use Rattle.framing.specs.Refusals.{not_allowed, refuse, or_else, moved_by}
-use Rattle.framing.specs.declared.refusals.Refusal.{Refusal}
+use Rattle.framing.specs.Refusals.{Refusal}
 use Rattle.framing.proofs.RefusalLaws.{or_else_go, ends}
 use Rattle.profiles.specs.Profiles.{end_at, widths_at, rules_refusal}
 use Rattle.profiles.specs.Places.{entry_at, entry_of}

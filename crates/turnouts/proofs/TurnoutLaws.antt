@@ -12,7 +12,7 @@ use Rattle.numbers.specs.Pieces.{total}
 use Rattle.numbers.proofs.FieldLaws.{field_lt, lt_or_le}
 use Rattle.numbers.proofs.PieceLaws.{total-append}
 use Rattle.framing.specs.Refusals.{none, not_allowed, refuse}
-use Rattle.framing.specs.declared.refusals.Refusal.{Refusal}
+use Rattle.framing.specs.Refusals.{Refusal}
 use Rattle.framing.proofs.RefusalLaws.{tested}
 use Rattle.profiles.specs.Profiles.{widths_for, widths_of}
 use Rattle.profiles.specs.Promised.{Promised}

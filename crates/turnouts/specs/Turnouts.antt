@@ -2,7 +2,7 @@
 use Rattle.std.specs.Prelude.{ℕ, List, [], ◌∷◌, Bool, cond, not, ◌&&◌, ◌||◌}
 use lib.{ListN.get_or, Dec.leb, Dec.eqb}
 use Rattle.framing.specs.Refusals.{not_allowed, refuse}
-use Rattle.framing.specs.declared.refusals.Refusal.{Refusal}
+use Rattle.framing.specs.Refusals.{Refusal}
 use Rattle.profiles.specs.Profiles.{Profile}
 
 abbrev pub turnout_type : ℕ  -- the type of a turnout sub-packet

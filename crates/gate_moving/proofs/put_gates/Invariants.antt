@@ -16,9 +16,7 @@ use Rattle.gate_moving.proofs.put_gates.Given as goal
 abbrev pub all : Form → List ℕ → ℕ → List ℕ → ℕ → List ℕ
 all from o p gates n = pack o p (times n (gate_widths (layout_of (other_form from)).distance)) (restated from (spread gates) n)
 
-abbrev pub invariant-loop-i : goal.invariant-loop-i
-invariant-loop-i l =
-    (l.i ≤ l.n) × (l.p ≤ 16 + 35 * l.i) × (length l.out ≡ length l.initial.out) × (all l.from l.out l.p (slice l.i l.n l.kept) (l.n - l.i) ≡ all l.from l.initial.out 16 (slice 0 l.n l.kept) l.n)
-
-abbrev pub decreases-loop-i : goal.decreases-loop-i
-decreases-loop-i l = l.n - l.i
+abbrev pub invariant-loop-gate : goal.invariant-loop-gate
+invariant-loop-gate l =
+    (l.p ≤ 16 + 35 * l.gate-index)
+    × (all l.from l.out l.p (slice l.gate-index (length l.kept) l.kept) (length l.kept - l.gate-index) ≡ all l.from l.initial.out 16 l.kept (length l.kept))

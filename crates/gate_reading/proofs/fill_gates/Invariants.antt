@@ -1,5 +1,5 @@
 -- `gate_reading::fill_gates` meets its contract. The invariant: what is left to store, stored, is all the gates.
-use Prim.Native.Nat.{◌-◌, ◌*◌, ◌≤◌}
+use Prim.Native.Nat.{◌*◌}
 use mathlib.Core.Path.{◌≡◌}
 use lib.ListN.{length}
 use lib.Seq.{sets, slice}
@@ -8,10 +8,4 @@ use Rattle.gate_reading.specs.Steps.{spread}
 use Rattle.gate_reading.proofs.fill_gates.Given as goal
 
 abbrev pub invariant-loop-i : goal.invariant-loop-i
-invariant-loop-i l =
-    (l.i ≤ l.n)
-    × (length l.out ≡ length l.initial.out)
-    × (sets l.out (gate_bytes * l.i) (spread (slice l.i l.n l.kept)) ≡ sets l.initial.out 0 (spread (slice 0 l.n l.kept)))
-
-abbrev pub decreases-loop-i : goal.decreases-loop-i
-decreases-loop-i l = l.n - l.i
+invariant-loop-i l = sets l.out (gate_bytes * l.i) (spread (slice l.i (length l.kept) l.kept)) ≡ sets l.initial.out 0 (spread l.kept)

@@ -1,40 +1,44 @@
--- `gate_reading::load_gates` meets its contract. The invariant: what is left to keep, kept, is all the gates.
-use Prim.Native.Nat.{ℕ, ◌+◌, ◌-◌}
-use mathlib.Core.Path.{◌≡◌, refl, sym, ap, ◌∙◌}
+-- `gate_reading::load_gates` meets its contract: a gate has no more bits than a wide field may have.
+use Prim.Native.Nat.{ℕ, ◌+◌, ◌-◌, ◌≤◌}
+use mathlib.Core.Path.{◌≡◌, sym, ap, ◌∙◌}
 use mathlib.Core.List.{[], ◌∷◌}
 use native.Mathlib.Omega.{arith}
-use lib.ListN.{set, length-set}
+use lib.ListN.{length, set, length-set}
 use lib.Seq.{sets}
+use Rattle.numbers.specs.Fields.{field}
 use Rattle.numbers.specs.Pieces.{times, unpack}
 use Rattle.numbers.proofs.PieceLaws.{unpack-nil}
 use Rattle.gates.specs.Gates.{gate_bits}
+use Rattle.gates.specs.declared.forms.Layout.{Layout}
+use Rattle.gates.proofs.GateLaws.{form_narrow}
 use Rattle.gate_reading.proofs.ReadingLaws.{load_more}
 use Rattle.gate_reading.proofs.load_gates.Invariants.{left}
+use Rattle.gate_reading.proofs.load_gates.Goals.{After-gate_bits-bits}
 use Rattle.gate_reading.proofs.load_gates.Goals as goal
 
-pub loop-i-init : goal.loop-i-init
-loop-i-init c = let a = c.args in
-    let e : a.n - 0 ≡ a.n = omega arith in
-    (omega arith, omega arith, refl, ap (λ (m : ℕ). sets a.kept.now 0 (left a.distance a.s.now 16 m)) e)
+few : (c : After-gate_bits-bits) → c.gate_bits-bits.result ≤ 35
+few c = omega (arith, c.gate_bits-bits.ensures, ap (λ (l : Layout). l.distance) c.layout.ensures, form_narrow c.args.form)
 
-pub loop-i-preserved : goal.loop-i-preserved
-loop-i-preserved c = let l = c.loop-i in
-    let a = c.args in
-    let less : a.n - (l.i + 1) ≡ a.n - l.i - 1 = omega arith in (
+pub loop-gate-preserved : goal.loop-gate-preserved
+loop-gate-preserved c = let l = c.loop-gate in
+    let b : ℕ = c.gate_bits-bits.result in
+    let narrow : b ≤ 35 = few (goal.at.loop-gate-preserved c).After-gate_bits-bits in
+    let one : c.read_wide.result ≡ field c.args.s.now l.p b = c.read_wide.ensures ∙ ap (field c.args.s.now l.p) (omega arith) in
+    let less : length (set l.kept l.gate-index c.read_wide.result) - (l.gate-index + 1) ≡ length l.kept - l.gate-index - 1 = simp length-set (omega arith) in (
       omega arith,
-      omega arith,
-      length-set l.kept l.i c.gate_at.result ∙ l.invariant.2,
-      (λ j. sets (set l.kept l.i (c.gate_at.ensures j)) (l.i + 1) (unpack a.s.now (l.p + c.gate_bits-p.ensures j) (times (less j) (gate_bits a.distance ∷ []))))
-          ∙ load_more a.s.now l.p (gate_bits a.distance) (a.n - l.i) l.kept l.i (omega arith)
-          ∙ l.invariant.3,
+      (λ j. sets (set l.kept l.gate-index (one j)) (l.gate-index + 1) (unpack c.args.s.now (l.p + b) (times (less j) (b ∷ []))))
+          ∙ load_more c.args.s.now l.p b (length l.kept - l.gate-index) l.kept l.gate-index (omega arith)
+          ∙ l.invariant.1,
     )
+
+pub overflow_add-p : goal.overflow_add-p
+overflow_add-p c = omega (arith, few (goal.at.overflow_add-p c).After-gate_bits-bits)
 
 pub returns : goal.returns
 unfolding times
-returns c = let l = c.loop-i in
-    let a = c.args in
-    let e : 0 ≡ a.n - l.i = omega arith in
-    ap (sets l.kept l.i) (sym (unpack-nil a.s.now l.p) ∙ ap (left a.distance a.s.now l.p) e) ∙ l.invariant.3
-
-pub shape_of-kept : goal.shape_of-kept
-shape_of-kept c = c.loop-i.invariant.2
+returns c = let l = c.loop-gate in
+    let b : ℕ = c.gate_bits-bits.result in
+    let e : 0 ≡ length l.kept - l.gate-index = omega arith in
+    ap (sets l.kept l.gate-index) (sym (unpack-nil c.args.s.now l.p) ∙ ap (left b c.args.s.now l.p) e)
+    ∙ l.invariant.1
+    ∙ ap (λ (w : ℕ). sets c.args.kept.now 0 (left w c.args.s.now 16 (length c.args.kept.now))) (c.gate_bits-bits.ensures ∙ ap (λ (l : Layout). gate_bits l.distance) c.layout.ensures)

@@ -5,7 +5,7 @@ use lib.Dec.{ltb}
 use lib.ListN.{length}
 use native.Mathlib.Omega.{arith}
 use Rattle.framing.specs.Refusals.{not_whole_entries, too_many_entries, refuse, or_else}
-use Rattle.framing.specs.declared.refusals.Refusal.{Refusal}
+use Rattle.framing.specs.Refusals.{Refusal}
 use Rattle.profiles.specs.Writing.{entries_in, size_for, list_refusal, write_refusal}
 use Rattle.gates.specs.Gates.{gate_profile_with, gate_bytes}
 use Rattle.gates.proofs.GateLaws.{bits_for_lem}

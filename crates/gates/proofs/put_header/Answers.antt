@@ -12,15 +12,11 @@ use Rattle.gates.proofs.put_header.Goals as goal
 pub returns : goal.returns
 unfolding header_put
 returns c =
-    let head = c in
-    let known = head in
-    let last = known in
-    let start = last in
-    let a = start.args in
-    let bytes : (last.bits_of.result + 7) / 8 ≡ bytes_for (bits_with a.distance a.n) = ap bytes_for last.bits_of.ensures.0 in record {
+    let a = c.args in
+    let bytes : (c.bits_of.result + 7) / 8 ≡ bytes_for (bits_with a.distance a.n) = ap bytes_for c.bits_of.ensures.0 in record {
       value = bytes;
-      out_after = head.put_half.ensures
-          ∙ (λ i. put_number 2 last.put_byte.new.out 0 (gate_type * 4096 + bytes i % 128 * 32 + a.n % 32))
-          ∙ header_put_lem last.put_byte.new.out (bytes_for (bits_with a.distance a.n)) a.n (λ k. omega (arith, known.slice_known-2-1.given k))
-          ∙ ap (λ (o : List ℕ). pack o 0 (4 ∷ 7 ∷ 5 ∷ []) (gate_type ∷ bytes_for (bits_with a.distance a.n) ∷ a.n ∷ [])) (last.put_byte.ensures ∙ ap (λ (b : ℕ). put_number 1 a.out.now (b - 1) 0) bytes);
+      out_after = c.put_half.ensures
+          ∙ (λ i. put_number 2 c.put_byte.new.out 0 (gate_type * 4096 + bytes i % 128 * 32 + a.n % 32))
+          ∙ header_put_lem c.put_byte.new.out (bytes_for (bits_with a.distance a.n)) a.n (λ k. omega (arith, c.slice_known-2-1.given k))
+          ∙ ap (λ (o : List ℕ). pack o 0 (4 ∷ 7 ∷ 5 ∷ []) (gate_type ∷ bytes_for (bits_with a.distance a.n) ∷ a.n ∷ [])) (c.put_byte.ensures ∙ ap (λ (b : ℕ). put_number 1 a.out.now (b - 1) 0) bytes);
     }

@@ -3,7 +3,7 @@ use Prim.Native.Nat.{ℕ, ◌+◌, ◌-◌, ◌*◌, ◌≤◌}
 use mathlib.Core.Path.{◌≡◌}
 use mathlib.Core.List.{List}
 use Rattle.numbers.specs.Pieces.{unpack}
-use Rattle.framing.specs.declared.refusals.Refusal.{Refusal}
+use Rattle.framing.specs.Refusals.{Refusal}
 use Rattle.profiles.specs.Profiles.{widths_at, rules_refusal}
 use Rattle.turnouts.specs.Turnouts.{turnout_profile}
 use Rattle.turnout_reading.proofs.rules_refusal.Given as goal

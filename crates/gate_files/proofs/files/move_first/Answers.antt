@@ -3,7 +3,7 @@ use mathlib.Core.Path.{◌≡◌, sym, ap, ◌∙◌}
 use mathlib.Core.Bool.{false}
 use native.Mathlib.Omega.{arith}
 use Prim.Native.Nat.{◌+◌}
-use Rattle.framing.specs.Refusals.{none}
+use Rattle.std.specs.Prelude.{None}
 use Rattle.gate_moving.specs.Moving.{move_answer, move_into}
 use Rattle.gate_moving.specs.declared.GatesMoved.{GatesMoved}
 use Rattle.gate_files.specs.Files.{first_moved, blank}
@@ -58,7 +58,7 @@ returns c =
       packets = a.file.packets + 1;
       used = a.file.used + m.used;
       made = m.written;
-      refusal = none;
+      refused = None;
       over = false;
       writable = a.file.writable;
     })

@@ -5,4 +5,4 @@ use lib.Seq.{length-take-le}
 use Rattle.gate_files.proofs.files.written.Goals as goal
 
 pub slice_bounds-write_all-end : goal.slice_bounds-write_all-end
-slice_bounds-write_all-end c = sym (length-take-le _ _ (omega (arith, c.at_most-n.ensures)))
+slice_bounds-write_all-end c = sym (length-take-le _ _ (omega (arith, c.min-made.ensures)))

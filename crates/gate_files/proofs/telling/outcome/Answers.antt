@@ -1,36 +1,23 @@
 -- `gate_files::telling::outcome` meets its contract.
-use mathlib.Core.Path.{sym}
-use Rattle.framing.proofs.RefusalLaws.{unless-none, unless-some}
 use Rattle.gate_files.specs.Outcome.{outcome_of}
 use Rattle.gate_files.proofs.telling.outcome.Goals as goal
 
-pub returns-then-held : goal.returns-then-held
+pub returns-then-file : goal.returns-then-file
 unfolding outcome_of
-returns-then-held c = simp c.if-held.true
+returns-then-file c = simp c.if-file.true
 
 pub returns-then-not-file : goal.returns-then-not-file
 unfolding outcome_of
-returns-then-not-file c =
-    let then = c in
-    simp (then.if-held.false, then.if-not-file.true)
+returns-then-not-file c = simp (c.if-file.false, c.if-not-file.true)
 
 pub returns-then-not-file-2 : goal.returns-then-not-file-2
 unfolding outcome_of
-returns-then-not-file-2 c =
-    let then = c in
-    let writable = then in
-    simp (writable.if-held.false, writable.if-not-file.false, then.if-not-file-2.true)
+returns-then-not-file-2 c = simp (c.if-file.false, c.if-not-file.false, c.if-not-file-2.true)
 
-pub returns-then-refusal-ne-ACCEPTED : goal.returns-then-refusal-ne-ACCEPTED
+pub returns-in-Some : goal.returns-in-Some
 unfolding outcome_of
-returns-then-refusal-ne-ACCEPTED c =
-    let over = c in
-    let writable = over in
-    simp (writable.if-held.false, writable.if-not-file.false, over.if-not-file-2.false) (sym (unless-some _ _ _ c.if-refusal-ne-ACCEPTED.true))
+returns-in-Some c = simp (c.if-file.false, c.if-not-file.false, c.if-not-file-2.false, c.in-Some.is)
 
 pub returns : goal.returns
 unfolding outcome_of
-returns c =
-    let over = c in
-    let writable = over in
-    simp (writable.if-held.false, writable.if-not-file.false, over.if-not-file-2.false) (sym (unless-none _ _ _ c.if-refusal-ne-ACCEPTED.false))
+returns c = simp (c.if-file.false, c.if-not-file.false, c.if-not-file-2.false, c.in_default.is)

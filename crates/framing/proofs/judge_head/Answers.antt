@@ -1,9 +1,9 @@
--- `framing::head_refusal` meets its contract: at each `return` the tests that led there pick the ground.
+-- `framing::judge_head` meets its contract: at each `return` the tests that led there pick the ground.
 use lib.ListN.{length}
 use native.Mathlib.Omega.{arith}
 use Rattle.framing.specs.Framing.{type_of, length_of, head_refusal}
 use Rattle.framing.proofs.RefusalLaws.{not_below, below, last_not_below, last_below}
-use Rattle.framing.proofs.head_refusal.Goals as goal
+use Rattle.framing.proofs.judge_head.Goals as goal
 
 pub returns-then-s-lt2 : goal.returns-then-s-lt2
 unfolding head_refusal
