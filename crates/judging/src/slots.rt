@@ -1,6 +1,7 @@
 // The search of the slot book for a run of free slots.
-ghost use Rattle.std.specs.Prelude.{◌≡◌};
-ghost use Rattle.rules.specs.Slots.{slot_of, is_free, lowest_run};
+ghost use Rattle.std.specs.Prelude.{◌≡◌, ◌≤◌};
+ghost use Rattle.kinds.specs.Kinds.{last_slot};
+ghost use Rattle.rules.specs.Slots.{slot_of, is_free, is_run, lowest_run};
 ghost use Rattle.store.specs.Stands.{book_of};
 
 use kinds::Slot;
@@ -21,24 +22,28 @@ fn is_free(s: &[u8], slot: usize) -> bool
     !view::is_taken(s, Slot(slot as u32))
 }
 
+// Are the n slots side by side from one on free?
+fn is_run(s: &[u8], start: usize, n: u32) -> bool
+    requires { start ≤ last_slot }
+    ensures { result ≡ is_run (book_of s.now) start n }
+{
+    let end = start + n as usize;
+    for slot in start..end {
+        if !is_free(s, slot) {
+            return false;
+        }
+    }
+    true
+}
+
 // The lowest start at which n slots side by side are free.
 pub(crate) fn lowest_run(s: &[u8], n: u32) -> Option<Slot>
     ensures { result ≡ lowest_run (book_of s.now) n }
 {
-    let mut start: usize = 1;
-    'starts: loop {
-        if start > LAST_SLOT {
-            break None;
+    for start in 1..LAST_SLOT + 1 {
+        if is_run(s, start, n) {
+            return Some(Slot(start as u32));
         }
-        let end = start + n as usize;
-        let mut slot = start;
-        while slot < end {
-            if !is_free(s, slot) {
-                start += 1;
-                continue 'starts;
-            }
-            slot += 1;
-        }
-        break Some(Slot(start as u32));
     }
+    None
 }
