@@ -3,3 +3,4 @@ pub mod Reading
 pub mod Places
 pub mod Writing
 pub mod Promised
+pub mod Regular

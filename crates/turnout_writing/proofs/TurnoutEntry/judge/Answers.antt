@@ -1,4 +1,4 @@
--- `turnout_writing::turnout_refusal` meets its contract: the law for each way out.
+-- `Turnout::judge` meets its contract: the law for each way out.
 use Prim.Native.Nat.{ℕ, ◌<◌}
 use mathlib.Core.Path.{◌≡◌, sym, ap, ◌∙◌}
 use mathlib.Core.List.{List}
@@ -6,8 +6,8 @@ use native.Mathlib.Omega.{arith}
 use lib.ListN.{get_or, drop}
 use Rattle.turnouts.specs.Turnouts.{last_distance, last_release, is_allowed}
 use Rattle.turnout_writing.proofs.WritingLaws.{speed, bytes, speed_eq, pair_eq, speed_refused, far_refused, release-refused, none-refused}
-use Rattle.turnout_writing.proofs.turnout_refusal.Goals.{After-byte_at-speed, Start}
-use Rattle.turnout_writing.proofs.turnout_refusal.Goals as goal
+use Rattle.turnout_writing.proofs.TurnoutEntry.judge.Goals.{After-byte_at-speed, Start}
+use Rattle.turnout_writing.proofs.TurnoutEntry.judge.Goals as goal
 
 -- the speed that was read
 abbrev start : After-byte_at-speed → Start
@@ -29,8 +29,7 @@ module _ (c : After-byte_at-speed) where
 pub returns-then-not-is_allowed : goal.returns-then-not-is_allowed
 returns-then-not-is_allowed c = let asked = c in
     let b = asked in
-    c.not_allowed.ensures
-    ∙ speed_refused (drop (at (goal.at.returns-then-not-is_allowed c).After-byte_at-speed) (list (goal.at.returns-then-not-is_allowed c).After-byte_at-speed)) (bytes (list (goal.at.returns-then-not-is_allowed c).After-byte_at-speed) (known (goal.at.returns-then-not-is_allowed c).After-byte_at-speed) (at (goal.at.returns-then-not-is_allowed c).After-byte_at-speed)) (ap is_allowed (sym (read (goal.at.returns-then-not-is_allowed c).After-byte_at-speed)) ∙ sym asked.is_allowed.ensures ∙ c.if-not-is_allowed.true)
+    speed_refused (drop (at (goal.at.returns-then-not-is_allowed c).After-byte_at-speed) (list (goal.at.returns-then-not-is_allowed c).After-byte_at-speed)) (bytes (list (goal.at.returns-then-not-is_allowed c).After-byte_at-speed) (known (goal.at.returns-then-not-is_allowed c).After-byte_at-speed) (at (goal.at.returns-then-not-is_allowed c).After-byte_at-speed)) (ap is_allowed (sym (read (goal.at.returns-then-not-is_allowed c).After-byte_at-speed)) ∙ sym asked.is_allowed.ensures ∙ c.if-not-is_allowed.true)
 
 pub returns-then-last_distance-half_at : goal.returns-then-last_distance-half_at
 returns-then-last_distance-half_at c = let b = c in

@@ -1,4 +1,4 @@
--- `gate_writing::put_gate` meets its contract: the number that is put has the pieces as its digits.
+-- `Gate::put` meets its contract: the number that is put has the pieces as its digits.
 use Prim.Native.Nat.{ℕ, ◌+◌, ◌*◌, min}
 use mathlib.Core.Path.{◌≡◌, sym, ◌∙◌}
 use mathlib.Core.List.{List}
@@ -6,15 +6,16 @@ use native.Mathlib.Omega.{arith}
 use lib.ListN.{get_or, drop, length-drop}
 use lib.Seq.{get_or-drop}
 use Rattle.numbers.specs.Fields.{put}
-use Rattle.gates.specs.Gates.{gate_bits}
+use Rattle.gates.specs.Gates.{distance_width, gate_widths, gate_bits}
 use Rattle.profiles.proofs.WritingLaws.{first_byte}
+use Rattle.gates.proofs.GateLaws.{total-gate}
 use Rattle.gates.proofs.PutLaws.{pair_drop, gate_digits, gate-put}
-use Rattle.gate_writing.proofs.put_gate.Goals as goal
+use Rattle.gate_writing.proofs.GateEntry.put.Goals as goal
 
 pub returns : goal.returns
+unfolding gate_widths
 returns c =
-    let start = c in
-    let a = start.args in
+    let a = c.args in
     let list = a.list.now in
     let g : List ℕ = drop a.at list in
     let piece : (k : ℕ) → get_or g k 0 ≡ get_or list (a.at + k) 0 = λ k. get_or-drop a.at list k 0 in
@@ -25,8 +26,10 @@ returns c =
     let e₆ = c.wide-3.ensures.0 ∙ sym (piece 6) in
     let e₇ = c.wide-4.ensures.0 ∙ sym (piece 7) in
     let e₈ = c.wide-5.ensures.0 ∙ sym (piece 8) in
-    let width : min c.gate_bits.result 57 ≡ gate_bits a.distance = omega (arith, c.gate_bits.ensures, start.requires) in
-    c.write_wide.ensures
-    ∙ (λ i. put a.out.now a.p (width i) (gate_digits (far i) (number i) (e₄ i) (e₅ i) (e₆ i) (e₇ i) (e₈ i)))
-    ∙ gate-put a.distance a.out.now a.p g (omega (arith, start.requires)) (λ k. omega (arith, c.slice_known-1.given k))
-    (λ k. omega (arith, piece k, c.shared_slice_known-1.given (a.at + k))) (simp length-drop (omega (arith, start.requires)))
+    let width : min c.gate_bits-bits.result 57 ≡ gate_bits distance_width = omega (arith, c.gate_bits-bits.ensures) in record {
+      value = (omega (arith, c.gate_bits-bits.ensures, total-gate distance_width (omega arith)), omega (arith, c.gate_bits-bits.ensures));
+      out_after = c.write_wide.ensures
+          ∙ (λ i. put a.out.now a.p (width i) (gate_digits (far i) (number i) (e₄ i) (e₅ i) (e₆ i) (e₇ i) (e₈ i)))
+          ∙ gate-put distance_width a.out.now a.p g (omega arith) (λ k. omega (arith, c.slice_known-1.given k))
+          (λ k. omega (arith, piece k, c.type_inv.list (a.at + k))) (simp length-drop (omega arith));
+    }

@@ -1,4 +1,4 @@
--- `turnout_writing::put_turnout` meets its contract: what is put has the pieces as its digits.
+-- `Turnout::put` meets its contract: what is put has the pieces as its digits.
 use Prim.Native.Nat.{ℕ, ◌+◌, ◌*◌, ◌%◌, min}
 use mathlib.Core.Path.{◌≡◌, ap, ◌∙◌}
 use mathlib.Core.List.{List}
@@ -9,7 +9,7 @@ use Rattle.numbers.specs.Pieces.{total}
 use Rattle.numbers.proofs.FieldLaws.{Bytes}
 use Rattle.turnouts.specs.Turnouts.{behind_speed}
 use Rattle.turnout_writing.proofs.WritingLaws.{bytes, speed_eq, pair_eq, turnout-put}
-use Rattle.turnout_writing.proofs.put_turnout.Goals as goal
+use Rattle.turnout_writing.proofs.TurnoutEntry.put.Goals as goal
 
 pub returns : goal.returns
 unfolding total
