@@ -4,3 +4,4 @@ pub mod Places
 pub mod Writing
 pub mod Promised
 pub mod Regular
+pub mod Begun

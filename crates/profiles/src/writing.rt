@@ -1,12 +1,12 @@
 // Any profile written: everything is judged first, and written afterwards, so that a refusal changes nothing. What the profile's own code does is
 // judge an entry, count the bytes, begin the sub-packet and put an entry.
-ghost use Rattle.std.specs.Prelude.{◌≡◌, ℕ, ◌+◌, ◌-◌, ◌*◌, ◌≤◌, List, [], ◌∷◌, length, get_or, drop};
+ghost use Rattle.std.specs.Prelude.{◌≡◌, ℕ, ◌+◌, ◌*◌, ◌≤◌, length, get_or, drop};
 ghost use Rattle.numbers.specs.Pieces.{total, pack};
-ghost use Rattle.numbers.specs.Numbers.{put_number};
 ghost use Rattle.framing.specs.Told.{told};
 ghost use Rattle.profiles.specs.Profiles.{Profile, first_at, widths_for, widths_of};
 ghost use Rattle.profiles.specs.Writing.{size_for, written, entry_refusal, list_refusal, write_refusal, write_answer, write_into};
 ghost use Rattle.profiles.specs.Regular.{Regular};
+ghost use Rattle.profiles.specs.Begun.{begun};
 
 use crate::EntriesWritten;
 use framing::refusals;
@@ -48,7 +48,7 @@ pub trait Entry {
         requires few { n ≤ MOST }
         requires there { BYTES * n ≤ length list.now }
         ensures value { result ≡ size_for profile list.now n }
-        ensures out_after { out.new ≡ pack (put_number 1 out.old (size_for profile list.now n - 1) 0) 0 (4 ∷ 7 ∷ profile.count_width ∷ []) (profile.kind ∷ size_for profile list.now n ∷ n ∷ []) };
+        ensures out_after { out.new ≡ begun profile (size_for profile list.now n) n out.old };
 
     // Puts an entry from bit p on, and answers the bit behind it.
     fn put(out: &mut [u8], p: usize, list: &[u8], at: usize) -> usize
@@ -57,13 +57,16 @@ pub trait Entry {
         ensures value { (result ≡ p + total (widths_for profile (get_or (drop at list.now) 0 0))) × (result ≤ p + 64) }
         ensures out_after { out.new ≡ pack out.old p (widths_for profile (get_or (drop at list.now) 0 0)) (drop at list.now) };
 
+    // The laws of any profile are laws of this one.
     ghost regular: { Regular profile };
 
+    // The numbers above are the profile's.
     ghost bytes_are: { BYTES ≡ profile.pieces };
 
     ghost first_is: { FIRST_AT ≡ first_at profile };
 
-    ghost few_entries: { MOST ≤ 30 };
+    // So no entry starts behind the bits at which one may be put.
+    ghost few_entries: { MOST ≤ 31 };
 
     ghost starts_low: { FIRST_AT ≤ 16 };
 }

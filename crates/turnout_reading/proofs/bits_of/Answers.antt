@@ -9,11 +9,6 @@ use Rattle.turnouts.proofs.TurnoutLaws.{regular}
 use Rattle.turnout_reading.proofs.ReadingLaws.{end_more}
 use Rattle.turnout_reading.proofs.bits_of.Goals as goal
 
-pub loop-i-init : goal.loop-i-init
-loop-i-init c = let a = c.args in
-    let e : a.n - 0 ≡ a.n = omega arith in
-    (omega arith, ap (entry_at turnout_profile a.s.now 13) e)
-
 pub loop-i-preserved : goal.loop-i-preserved
 loop-i-preserved c = let l = c.loop-i in
     let a = c.args in

@@ -8,11 +8,6 @@ use Rattle.turnout_reading.proofs.ReadingLaws.{rules-stop, rules_go}
 use Rattle.turnout_reading.proofs.judge_rules.Invariants.{the_rules}
 use Rattle.turnout_reading.proofs.judge_rules.Goals as goal
 
-pub loop-i-init : goal.loop-i-init
-loop-i-init c = let a = c.args in
-    let e : a.n - 0 ≡ a.n = omega arith in
-    (omega arith, ap (the_rules a.s.now 13) e)
-
 pub returns-then-not-is_allowed : goal.returns-then-not-is_allowed
 returns-then-not-is_allowed c = let asked = c in
     let l = asked.loop-i in

@@ -10,11 +10,6 @@ use Rattle.turnout_writing.proofs.WritingLaws.{speed_eq, bits-more, bits_none}
 use Rattle.turnout_writing.proofs.bits_for.Invariants.{left}
 use Rattle.turnout_writing.proofs.bits_for.Goals as goal
 
-pub loop-i-init : goal.loop-i-init
-loop-i-init c = let a = c.args in
-    let e : a.n - 0 ≡ a.n = omega arith in
-    (omega arith, ap (λ (m : ℕ). 13 + left a.list.now m) e)
-
 pub loop-i-preserved : goal.loop-i-preserved
 loop-i-preserved c = let l = c.loop-i in
     let a = c.args in

@@ -1,5 +1,5 @@
 -- `Gate::size` meets its contract: the count alone tells the bytes.
-use mathlib.Core.Path.{◌≡◌, sym, ap, ◌∙◌}
+use mathlib.Core.Path.{sym, ap, ◌∙◌}
 use native.Mathlib.Omega.{arith}
 use Rattle.profiles.specs.Profiles.{bytes_for}
 use Rattle.gates.specs.Gates.{distance_width}

@@ -6,14 +6,6 @@ use Rattle.profiles.specs.Writing.{list_refusal}
 use Rattle.profiles.proofs.WritingLaws.{list-none, list-stop, list_go}
 use Rattle.profiles.proofs.writing.judge_list.Goals as goal
 
-pub loop-i-init : goal.loop-i-init
-loop-i-init g c =
-    let e = g.E.Entry in
-    let a = c.args in
-    let none_passed : e.BYTES * 0 ≡ 0 = omega arith in
-    let all_left : a.n - 0 ≡ a.n = omega arith in
-    λ j. list_refusal e.profile (drop (none_passed j) a.list.now) (all_left j)
-
 pub returns-in_err-judge : goal.returns-in_err-judge
 returns-in_err-judge g c =
     let e = g.E.Entry in

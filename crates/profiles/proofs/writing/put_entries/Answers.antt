@@ -8,9 +8,6 @@ use Rattle.profiles.proofs.WritingLaws.{entries_step}
 use Rattle.profiles.proofs.writing.put_entries.Invariants.{putting}
 use Rattle.profiles.proofs.writing.put_entries.Goals as goal
 
-pub put-p-requires-clause-low : goal.put-p-requires-clause-low
-put-p-requires-clause-low g c = omega (arith, g.met.E.Entry.few_entries)
-
 pub loop-i-init : goal.loop-i-init
 loop-i-init g c =
     let e = g.E.Entry in
@@ -49,6 +46,3 @@ returns g c =
     let v : List ℕ = drop (e.BYTES * l.i) a.list.now in
     let left : 0 ≡ a.n - l.i = omega arith in
     sym (pack-zero l.out l.p v) ∙ ap (λ (ws : List ℕ). pack l.out l.p ws v) (sym (of_none e.profile v) ∙ ap (widths_of e.profile v) left) ∙ l.invariant.2
-
-pub shape_of-out : goal.shape_of-out
-shape_of-out g c = c.loop-i.invariant.1

@@ -7,21 +7,18 @@ use Rattle.profiles.specs.Writing.{entries_in, size_for, written_with}
 use Rattle.profiles.proofs.WritingLaws.{listed, write_refused, write_accepted}
 use Rattle.profiles.proofs.writing.write.Goals as goal
 
-pub put_packet-bytes-requires-clause-few : goal.put_packet-bytes-requires-clause-few
-put_packet-bytes-requires-clause-few g c =
-    let e = g.E.Entry in
-    let list = c.args.list.now in
-    let taken = listed e.profile e.MOST list (length c.args.out.now) (sym (same_number c.in-Ok.ensures)) in
-    let n : length list / c.BYTES.result ≡ entries_in e.profile list = ap (λ (b : ℕ). length list / b) (c.BYTES.ensures ∙ g.met.E.Entry.bytes_are) in
-    omega (arith, n, taken.few)
-
-pub put_packet-bytes-requires-clause-whole : goal.put_packet-bytes-requires-clause-whole
-put_packet-bytes-requires-clause-whole g c =
+-- where nothing refuses, the list is whole entries, and no more than the most
+pub put_packet-bytes-requires : goal.put_packet-bytes-requires
+put_packet-bytes-requires g c =
     let e = g.E.Entry in
     let list = c.args.list.now in
     let taken = listed e.profile e.MOST list (length c.args.out.now) (sym (same_number c.in-Ok.ensures)) in
     let bytes = c.BYTES.ensures ∙ g.met.E.Entry.bytes_are in
-    taken.whole ∙ (λ j. sym g.met.E.Entry.bytes_are j * (length list / sym bytes j))
+    let n : length list / c.BYTES.result ≡ entries_in e.profile list = ap (λ (b : ℕ). length list / b) bytes in
+    record {
+      few = omega (arith, n, taken.few);
+      whole = taken.whole ∙ (λ j. sym g.met.E.Entry.bytes_are j * (length list / sym bytes j));
+    }
 
 pub returns-in-Ok : goal.returns-in-Ok
 returns-in-Ok g c =

@@ -1,11 +1,11 @@
 -- `Turnout::begin` meets its contract: type, length and count are one number.
-use Prim.Native.Nat.{ℕ, ◌-◌, ◌≤◌}
+use Prim.Native.Nat.{ℕ, ◌≤◌}
 use mathlib.Core.Path.{◌≡◌, ap, ◌∙◌}
 use mathlib.Core.List.{List, [], ◌∷◌}
 use native.Mathlib.Omega.{arith}
 use Rattle.numbers.specs.Pieces.{pack}
-use Rattle.numbers.specs.Numbers.{put_number}
 use Rattle.numbers.proofs.FieldLaws.{Bytes}
+use Rattle.profiles.specs.Begun.{begun}
 use Rattle.profiles.specs.Profiles.{bytes_for}
 use Rattle.profiles.specs.Writing.{size_for}
 use Rattle.turnouts.specs.Turnouts.{turnout_profile}
@@ -25,6 +25,6 @@ returns c =
       value = size;
       out_after = c.write_field.ensures
           ∙ header_put_lem last.new.out sized.result a.n known (omega (arith, small)) (omega arith)
-          ∙ (λ i. pack (last.ensures i) 0 (4 ∷ 7 ∷ 2 ∷ []) (4 ∷ size i ∷ a.n ∷ []))
-          ∙ (λ i. pack (put_number 1 a.out.now (size i - 1) 0) 0 (4 ∷ 7 ∷ 2 ∷ []) (4 ∷ size_for turnout_profile list a.n ∷ a.n ∷ []));
+          ∙ (λ i. pack (last.ensures i) 0 (4 ∷ 7 ∷ 2 ∷ []) (4 ∷ sized.result ∷ a.n ∷ []))
+          ∙ ap (λ (b : ℕ). begun turnout_profile b a.n a.out.now) size;
     }
