@@ -1,7 +1,6 @@
 -- Laws of the pieces of entries, for any profile.
 use mathlib.Core.Path.{◌≡◌, refl, sym, ap, ◌∙◌}
 use mathlib.Core.List.{List, [], ◌++◌}
-use mathlib.Core.Logic.{◌⊎◌}
 use Prim.Native.Nat.{ℕ, zero, suc, ◌+◌, ◌*◌, ◌≤◌, ◌<◌}
 use native.Mathlib.Nat.{mul-zero, mul-suc}
 use native.Mathlib.Omega.{arith}
@@ -12,14 +11,7 @@ use Rattle.numbers.proofs.PieceLaws.{length-unpack, total-append, unpack-append}
 use Rattle.framing.specs.Refusals.{none, or_else, moved_by}
 use Rattle.profiles.specs.Profiles.{Profile, widths_for, end_at, widths_at, widths_of, rules_refusal}
 use Rattle.profiles.specs.Places.{entry_of}
-
--- what a profile must keep to for the laws to hold: each entry has the pieces that it says, and the rules look at an entry's own bytes, refuse with 4
--- alone, and tell a place within the entry
-pub record Regular (f : Profile) : Type 0 where
-  pub long : (v : ℕ) → length (widths_for f v) ≡ f.pieces
-  pub local : (entry more : List ℕ) → length entry ≡ f.pieces → f.rules (entry ++ more) ≡ f.rules entry
-  pub only : (list : List ℕ) → (f.rules list ≡ none) ⊎ ((f.rules list).number ≡ 4)
-  pub within : (list : List ℕ) → (f.rules list).place < total (widths_for f (get_or list 0 0))
+pub use Rattle.profiles.specs.Regular.{Regular}
 
 -- an entry has at least one piece
 pub some : (f : Profile) → Regular f → 0 < f.pieces

@@ -3,3 +3,5 @@ pub mod Reading
 pub mod Places
 pub mod Writing
 pub mod Promised
+pub mod Regular
+pub mod Begun

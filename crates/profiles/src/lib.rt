@@ -2,6 +2,8 @@
 // entries are; `bits` is the bits of a sub-packet before its padding.
 #![tactic(auto)]
 
+pub mod writing;
+
 ghost use Rattle.std.specs.Prelude.{◌≡◌};
 ghost use Rattle.numbers.specs.Fields.{field};
 ghost use Rattle.framing.specs.Told.{ground_of, told};

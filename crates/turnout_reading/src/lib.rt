@@ -6,6 +6,7 @@ ghost use Rattle.std.specs.Prelude.{◌≡◌, ◌+◌, ◌*◌, ◌≤◌, ◌<
 ghost use Rattle.std.proofs.lemmas.List.Edits.{sets};
 ghost use Rattle.numbers.specs.Fields.{field};
 ghost use Rattle.numbers.specs.Pieces.{total};
+ghost use Rattle.framing.specs.Told.{told};
 ghost use Rattle.profiles.specs.Profiles.{end_at, rules_refusal};
 ghost use Rattle.profiles.specs.Reading.{first_entries, read_refusal, read_answer, read_into};
 ghost use Rattle.profiles.specs.Places.{entry_at};
@@ -45,41 +46,36 @@ fn bits_of(s: &[u8], n: usize) -> usize
     ensures { (result ≡ entry_at turnout_profile s.now 13 n) × (result ≤ 109) }
 {
     let mut p = turnouts::FIRST_TURNOUT_AT;
-    let mut i = 0;
-    while i < n {
+    for i in 0..n {
         p = end_at(s, p);
-        i += 1;
     }
     p
 }
 
-// The first refusal of n turnouts from bit 13 on. At fault is a speed, with which a turnout starts.
-fn rules_refusal(s: &[u8], n: usize) -> Refusal
+// Judges n turnouts from bit 13 on. At fault is a speed, with which a turnout starts.
+fn judge_rules(s: &[u8], n: usize) -> Result<(), Refusal>
     requires { n ≤ 3 }
-    ensures { result ≡ rules_refusal turnout_profile 13 (first_entries turnout_profile s.now n) n }
+    ensures { told result ≡ rules_refusal turnout_profile 13 (first_entries turnout_profile s.now n) n }
 {
     let mut p = turnouts::FIRST_TURNOUT_AT;
-    let mut i = 0;
-    while i < n {
+    for i in 0..n {
         if !turnouts::is_allowed(speed_at(s, p)) {
-            return refusals::not_allowed(p);
+            return Err(Refusal::NotAllowed(p));
         }
         p = end_at(s, p);
-        i += 1;
     }
-    refusals::NONE
+    Ok(())
 }
 
-// The refusal of a read into `room` bytes.
-fn read_refusal(s: &[u8], room: usize) -> Refusal
-    ensures { result ≡ read_refusal turnout_profile s.now room }
+// Judges a read into `room` bytes.
+fn judge_read(s: &[u8], room: usize) -> Result<(), Refusal>
+    ensures { told result ≡ read_refusal turnout_profile s.now room }
 {
     let n = turnouts::count_of(s);
     let bits = bits_of(s, n) as u32;
-    let shape = profiles::shape_refusal(s, turnouts::TURNOUT_TYPE, bits);
-    let rules = rules_refusal(s, n);
-    let end = profiles::end_refusal(s, bits, turnouts::TURNOUT_BYTES * n, room);
-    refusals::or_else(shape, refusals::or_else(rules, end))
+    profiles::judge_shape(s, turnouts::TURNOUT_TYPE, bits)?;
+    judge_rules(s, n)?;
+    profiles::judge_end(s, bits, turnouts::TURNOUT_BYTES * n, room)
 }
 
 // Stores the 5 bytes of a turnout from byte `at` on.
@@ -102,13 +98,11 @@ fn fill_turnouts(s: &[u8], n: usize, out: &mut [u8])
     ensures { out.new ≡ sets out.old 0 (first_entries turnout_profile s.now n) }
 {
     let mut p = turnouts::FIRST_TURNOUT_AT;
-    let mut i = 0;
-    while i < n {
+    for i in 0..n {
         let speed = speed_at(s, p);
         let distances = distances_at(s, p, speed);
         fill_turnout(speed, distances, out, turnouts::TURNOUT_BYTES * i);
         p = end_at(s, p);
-        i += 1;
     }
 }
 
@@ -118,16 +112,17 @@ pub fn read_turnouts(s: &[u8], out: &mut [u8]) -> EntriesRead
     ensures value { result ≡ read_answer turnout_profile s.now out.old }
     ensures out_after { out.new ≡ read_into turnout_profile s.now out.old }
 {
-    let refusal = read_refusal(s, out.len());
-    if refusal.number != refusals::ACCEPTED {
-        return profiles::refused(refusal);
-    }
-    let entries = turnouts::count_of(s);
-    fill_turnouts(s, entries, out);
-    EntriesRead {
-        answer: refusals::ACCEPTED,
-        place: refusals::NOWHERE,
-        entries,
-        bytes: framing::length_of(s),
+    match judge_read(s, out.len()) {
+        Ok(_) => {
+            let entries = turnouts::count_of(s);
+            fill_turnouts(s, entries, out);
+            EntriesRead {
+                answer: refusals::ACCEPTED,
+                place: refusals::NOWHERE,
+                entries,
+                bytes: framing::length_of(s),
+            }
+        }
+        Err(refusal) => EntriesRead::from(refusal),
     }
 }

@@ -39,17 +39,15 @@ pub fn count_of(s: &[u8]) -> usize
 }
 
 // Whether a speed's code limits it, so that a distance and a release distance follow.
+#[tactic(auto, unfolding(crate::specs::Turnouts::is_restricted))]
 pub fn is_restricted(speed: u32) -> bool
     ensures { result ≡ is_restricted speed }
 {
-    if 1 <= speed {
-        speed <= LAST_RESTRICTED
-    } else {
-        false
-    }
+    1 <= speed && speed <= LAST_RESTRICTED
 }
 
 // The bits of a turnout behind its speed.
+#[tactic(auto, unfolding(crate::specs::Turnouts::behind_speed, numbers::specs::Pieces::total))]
 pub fn bits_behind(speed: u32) -> usize
     ensures { (result ≡ total (behind_speed speed)) × (result ≤ 27) }
 {
@@ -61,6 +59,7 @@ pub fn bits_behind(speed: u32) -> usize
 }
 
 // The greatest distance of a turnout with this speed.
+#[tactic(auto, unfolding(crate::specs::Turnouts::last_distance))]
 pub fn last_distance(speed: u32) -> u32
     ensures { result ≡ last_distance speed }
 {
@@ -72,6 +71,7 @@ pub fn last_distance(speed: u32) -> u32
 }
 
 // The greatest release distance of a turnout with this speed.
+#[tactic(auto, unfolding(crate::specs::Turnouts::last_release))]
 pub fn last_release(speed: u32) -> u32
     ensures { result ≡ last_release speed }
 {
@@ -83,12 +83,9 @@ pub fn last_release(speed: u32) -> u32
 }
 
 // Whether a speed's code is allowed.
+#[tactic(auto, unfolding(crate::specs::Turnouts::is_allowed))]
 pub fn is_allowed(speed: u32) -> bool
     ensures { result ≡ is_allowed speed }
 {
-    if is_restricted(speed) {
-        true
-    } else {
-        speed == UNRESTRICTED
-    }
+    is_restricted(speed) || speed == UNRESTRICTED
 }

@@ -6,7 +6,4 @@ use Rattle.turnouts.specs.Turnouts.{turnout_profile}
 use Rattle.turnout_reading.proofs.bits_of.Given as goal
 
 abbrev pub invariant-loop-i : goal.invariant-loop-i
-invariant-loop-i l = (l.i ≤ l.n) × (l.p ≤ 13 + 32 * l.i) × (entry_at turnout_profile l.s l.p (l.n - l.i) ≡ entry_at turnout_profile l.s 13 l.n)
-
-abbrev pub decreases-loop-i : goal.decreases-loop-i
-decreases-loop-i l = l.n - l.i
+invariant-loop-i l = (l.p ≤ 13 + 32 * l.i) × (entry_at turnout_profile l.s l.p (l.n - l.i) ≡ entry_at turnout_profile l.s 13 l.n)

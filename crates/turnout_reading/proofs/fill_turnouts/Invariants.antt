@@ -15,7 +15,4 @@ left s p m = unpack s p (widths_at turnout_profile s p m)
 
 abbrev pub invariant-loop-i : goal.invariant-loop-i
 invariant-loop-i l =
-    (l.i ≤ l.n) × (l.p ≤ 13 + 32 * l.i) × (length l.out ≡ length l.initial.out) × (sets l.out (turnout_bytes * l.i) (left l.s l.p (l.n - l.i)) ≡ sets l.initial.out 0 (left l.s 13 l.n))
-
-abbrev pub decreases-loop-i : goal.decreases-loop-i
-decreases-loop-i l = l.n - l.i
+    (l.p ≤ 13 + 32 * l.i) × (length l.out ≡ length l.initial.out) × (sets l.out (turnout_bytes * l.i) (left l.s l.p (l.n - l.i)) ≡ sets l.initial.out 0 (left l.s 13 l.n))

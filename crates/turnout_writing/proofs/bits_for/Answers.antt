@@ -1,5 +1,5 @@
 -- `turnout_writing::bits_for` meets its contract. The invariant: with the bits of the turnouts left they are those of all.
-use Prim.Native.Nat.{ℕ, ◌+◌, ◌-◌}
+use Prim.Native.Nat.{ℕ, ◌+◌, ◌-◌, ◌*◌}
 use mathlib.Core.Path.{◌≡◌, ap, ◌∙◌}
 use native.Mathlib.Omega.{arith}
 use lib.ListN.{drop}
@@ -10,26 +10,22 @@ use Rattle.turnout_writing.proofs.WritingLaws.{speed_eq, bits-more, bits_none}
 use Rattle.turnout_writing.proofs.bits_for.Invariants.{left}
 use Rattle.turnout_writing.proofs.bits_for.Goals as goal
 
-pub loop-i-init : goal.loop-i-init
-loop-i-init c = let a = c.args in
-    let e : a.n - 0 ≡ a.n = omega arith in
-    (omega arith, omega arith, omega arith, ap (λ (m : ℕ). 13 + left a.list.now m) e)
-
 pub loop-i-preserved : goal.loop-i-preserved
 loop-i-preserved c = let l = c.loop-i in
-    let start = c in
-    let a = start.args in
+    let a = c.args in
+    let at : ℕ = turnout_bytes * l.i in
     let known : Bytes a.list.now = λ k. omega (arith, c.shared_slice_known-1.given k) in
     let less : a.n - (l.i + 1) ≡ a.n - l.i - 1 = omega arith in
-    let e = c.bits_behind.ensures.0 ∙ ap (λ (v : ℕ). total (behind_speed v)) (c.byte_at.ensures ∙ speed_eq a.list.now known l.at) in (
-      omega arith,
-      omega arith,
+    let behind : turnout_bytes * (l.i + 1) ≡ at + turnout_bytes = omega arith in
+    let e = c.bits_behind.ensures.0 ∙ ap (λ (v : ℕ). total (behind_speed v)) (c.byte_at-speed.ensures ∙ speed_eq a.list.now known at) in
+    let rest : left (drop (turnout_bytes * (l.i + 1)) a.list.now) (a.n - (l.i + 1)) ≡ left (drop (at + turnout_bytes) a.list.now) (a.n - l.i - 1) = λ j. left (drop (behind j) a.list.now) (less j) in (
       omega (arith, c.bits_behind.ensures.1),
-      omega (arith, e, l.invariant.3, bits-more a.list.now l.at (a.n - l.i) (omega arith), ap (left (drop (l.at + turnout_bytes) a.list.now)) less),
+      omega (arith, e, l.invariant.1, bits-more a.list.now at (a.n - l.i) (omega arith), rest),
     )
 
 pub returns : goal.returns
 returns c = let l = c.loop-i in
     let a = c.args in
+    let v = drop (turnout_bytes * l.i) a.list.now in
     let e : a.n - l.i ≡ 0 = omega arith in
-    (omega (arith, l.invariant.3, ap (left (drop l.at a.list.now)) e, bits_none (drop l.at a.list.now)), omega (arith, l.invariant.2))
+    (omega (arith, l.invariant.1, ap (left v) e, bits_none v), omega (arith, l.invariant.0))

@@ -12,8 +12,4 @@ abbrev pub left : List ℕ → ℕ → ℕ
 left list m = total (widths_of turnout_profile list m)
 
 abbrev pub invariant-loop-i : goal.invariant-loop-i
-invariant-loop-i l =
-    (l.i ≤ l.n) × (l.at ≡ turnout_bytes * l.i) × (l.bits ≤ 13 + 32 * l.i) × (l.bits + left (drop l.at l.list) (l.n - l.i) ≡ 13 + left l.list l.n)
-
-abbrev pub decreases-loop-i : goal.decreases-loop-i
-decreases-loop-i l = l.n - l.i
+invariant-loop-i l = (l.bits ≤ 13 + 32 * l.i) × (l.bits + left (drop (turnout_bytes * l.i) l.list) (l.n - l.i) ≡ 13 + left l.list l.n)
