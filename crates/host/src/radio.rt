@@ -15,6 +15,7 @@ ghost use Rattle.turnouts.specs.Turnouts.{turnout_profile, most_turnouts};
 ghost use Rattle.host.specs.Frame.{frame_answer};
 
 use clock::FrameAge;
+use framing::refusals;
 use gate_moving::GatesMoved;
 use gates::forms::Form;
 use modes::Step;
@@ -37,10 +38,13 @@ pub struct FrameAnswer {
 pub extern "C" fn kb_frame(bytes: &[u8]) -> FrameAnswer
     ensures { result ≡ frame_answer bytes.now }
 {
-    let refusal = framing::frame_refusal(bytes);
+    let (answer, place) = match framing::judge_frame(bytes) {
+        Ok(_) => (refusals::ACCEPTED, refusals::NOWHERE),
+        Err(refusal) => (refusal.number(), refusal.place()),
+    };
     FrameAnswer {
-        answer: refusal.number,
-        place: refusal.place,
+        answer,
+        place,
         offset: 0,
         length: framing::frame(bytes).len(),
     }
