@@ -22,7 +22,7 @@ fn tell(session: &[u8], number: u32) -> Answer
     ensures { result ≡ number_answer session.now number }
 {
     if !layout::is_session(session) {
-        return Answer::refused(Refusal::WrongLength);
+        return Answer::refused(Refusal::WrongLength.number());
     }
     Answer::accepted(number, 0, 0)
 }
@@ -66,7 +66,7 @@ pub extern "C" fn kb_train(session: &[u8], row: u32) -> TrainAnswer
     ensures { result ≡ train_answer session.now row }
 {
     if !layout::is_session(session) {
-        return TrainAnswer::refused(Refusal::WrongLength);
+        return TrainAnswer::refused(Refusal::WrongLength.number());
     }
     TrainAnswer::from(questions::train(session, row))
 }

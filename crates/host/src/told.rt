@@ -1,10 +1,8 @@
 // A train record as the numbers that C reads: where there is no position, authority, signal or limit, the number is that of none.
 ghost use Rattle.std.specs.Prelude.{◌≡◌};
-ghost use Rattle.rules.specs.Refusals.{number_of};
 ghost use Rattle.host.specs.Told.{order_told, train_told, train_refused};
 
 use kinds::ranges::NONE;
-use rules::refusals::Refusal;
 use trains::record::{Order, Train};
 
 // An order: the other train's ticket, 0 for no order; and the limit in metres, or none for a bare one.
@@ -70,11 +68,11 @@ impl From<Train> for TrainAnswer {
 
 impl TrainAnswer {
     #[tactic(auto, unfolding(crate::specs::Told::train_refused))]
-    pub fn refused(reason: Refusal) -> TrainAnswer
-        ensures { result ≡ train_refused (number_of reason) }
+    pub fn refused(reason: u32) -> TrainAnswer
+        ensures { result ≡ train_refused reason }
     {
         TrainAnswer {
-            answer: reason.number(),
+            answer: reason,
             ..TrainAnswer::default()
         }
     }

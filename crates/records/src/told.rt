@@ -38,6 +38,6 @@ impl Ran {
     pub fn not_run(before: u32) -> Ran
         ensures { result ≡ not_run before }
     {
-        Ran::run_with(before, 0, 0, Answer::refused(Refusal::BadRecord))
+        Ran::run_with(before, 0, 0, Answer::refused(Refusal::BadRecord.number()))
     }
 }

@@ -1,6 +1,5 @@
 // What the rules say of an operation: what a call answers, the ticket counter afterwards, and the effect on the view.
 ghost use Rattle.std.specs.Prelude.{◌≡◌};
-ghost use Rattle.rules.specs.Refusals.{number_of};
 ghost use Rattle.rules.specs.Ruling.{accepted_with, refused_with};
 ghost use Rattle.rules.specs.Meant.{accepted_by, answer_meant};
 
@@ -59,11 +58,12 @@ impl Answer {
         }
     }
 
-    pub fn refused(reason: Refusal) -> Answer
-        ensures { result ≡ refused_with (number_of reason) }
+    // By the number of a ground, which is any number for whoever asks.
+    pub fn refused(reason: u32) -> Answer
+        ensures { result ≡ refused_with reason }
     {
         Answer {
-            answer: reason.number(),
+            answer: reason,
             first: 0,
             second: 0,
             third: 0,
@@ -76,7 +76,7 @@ impl Answer {
     {
         match told {
             Ok(numbers) => Answer::accepted(numbers.first, numbers.second, numbers.third),
-            Err(reason) => Answer::refused(reason),
+            Err(reason) => Answer::refused(reason.number()),
         }
     }
 }

@@ -20,14 +20,14 @@ fn commit(ruling: Result<Ruling, Refusal>, session: &mut [u8]) -> Answer
     ensures session_after { session.new ≡ taken session.old (ruling_meant (counter_of session.old) ruling) }
 {
     if !layout::is_session(session) {
-        return Answer::refused(Refusal::WrongLength);
+        return Answer::refused(Refusal::WrongLength.number());
     }
     match ruling {
         Ok(ruling) => {
             settled::settle(session, ruling.counter, ruling.effect);
             Answer::of(Ok(ruling.told))
         }
-        Err(reason) => Answer::refused(reason),
+        Err(reason) => Answer::refused(reason.number()),
     }
 }
 
@@ -37,7 +37,7 @@ pub fn start(session: &mut [u8]) -> Answer
     ensures session_after { session.new ≡ start_after session.old }
 {
     if !layout::is_session(session) {
-        return Answer::refused(Refusal::WrongLength);
+        return Answer::refused(Refusal::WrongLength.number());
     }
     emptied::clear(session);
     Answer::accepted(0, 0, 0)

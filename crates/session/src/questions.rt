@@ -22,7 +22,7 @@ pub fn end(session: &[u8], loco: Loco, ticket: Ticket) -> Answer
     ensures { result ≡ end_answer_to session.now loco ticket }
 {
     if !layout::is_session(session) {
-        return Answer::refused(Refusal::WrongLength);
+        return Answer::refused(Refusal::WrongLength.number());
     }
     Answer::of(judging::end(session, loco, ticket))
 }

@@ -16,12 +16,12 @@ pub fn step_back(session: &mut [u8], k: u32) -> Answer
     ensures session_after { session.new ≡ back_after session.old k }
 {
     if !layout::is_session(session) {
-        return Answer::refused(Refusal::WrongLength);
+        return Answer::refused(Refusal::WrongLength.number());
     }
     let kept = view::kept(session);
     let steps = k as usize;
     if kept < steps {
-        return Answer::refused(Refusal::TooFarBack);
+        return Answer::refused(Refusal::TooFarBack.number());
     }
     back::step_back(session, steps);
     Answer::accepted((kept - steps) as u32, 0, 0)

@@ -1,6 +1,6 @@
 -- `session::operations::start` meets its contract.
-use Rattle.rules.specs.Refusals.{number_of}
-use mathlib.Core.Path.{sym, ◌∙◌}
+use Rattle.rules.specs.{Refusals.number_of, Ruling.refused_with}
+use mathlib.Core.Path.{sym, ap, ◌∙◌}
 use mathlib.Core.Bool.{cond}
 use Rattle.store.specs.Emptied.{emptied}
 use Rattle.session.specs.Answers.{start_answer, start_after}
@@ -13,7 +13,7 @@ returns-then-not-is_session c =
     let bs = c.args.session.now in
     let none = sym c.is_session.ensures ∙ c.if-not-is_session.true in
     record {
-      value = c.refused.ensures ∙ sym (of_none _ _ none);
+      value = c.refused.ensures ∙ ap refused_with c.number.ensures ∙ sym (of_none _ _ none);
       session_after = sym (λ i. cond (none i) (emptied bs) bs);
     }
 
