@@ -46,7 +46,7 @@ fn given(test: bool, reason: Refusal, after: Train) -> Result<Changed, Refusal>
     })
 }
 
-// A mode step; one that stays changes nothing.
+// A mode step; one that stays changes nothing. `Step` is what C gets, so that its numbers say whether it is refused, and whether it stays.
 #[tactic(auto, unfolding(rules::specs::Deeds::mode_stepped, rules::specs::Deeds::step_taken))]
 fn step(train: Train, flags: &[u8]) -> Result<Changed, Refusal>
     ensures { changed_meant train result ≡ mode_stepped train (next_step train.mode flags.now) }

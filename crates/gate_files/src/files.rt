@@ -82,6 +82,7 @@ fn move_first(from: Form, file: File, held: Held, first: &[u8], out: &mut [u8]) 
         return stopped(file, held, None);
     }
     let moved = gate_moving::move_gates(from, first, out);
+    // what C gets of a move, so that its number says whether it is refused
     if moved.answer != refusals::ACCEPTED {
         let refused = Refused {
             number: moved.answer,

@@ -33,6 +33,7 @@ fn line_of(ran: Ran) -> Line
 fn accepted_by(ran: Ran) -> u64
     ensures { result ≡ one_if_accepted ran }
 {
+    // what C gets of a record, so that its number says whether it was refused
     u64::from(ran.answer == 0)
 }
 
