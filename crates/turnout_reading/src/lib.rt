@@ -1,5 +1,5 @@
 // Turnout sub-packets read: everything is judged first, and stored afterwards, so that a refusal changes nothing. A turnout's speed tells where the
-// turnout ends, so each walk goes from one to the next.
+// turnout ends, so each walk goes from one to the next; a walk's counter has a name where only its invariant speaks of it.
 #![tactic(auto)]
 
 ghost use Rattle.std.specs.Prelude.{◌≡◌, ◌+◌, ◌*◌, ◌≤◌, ◌<◌, ◌^◌, length};
