@@ -5,7 +5,7 @@
 
 ghost use Rattle.std.specs.Prelude.{ℕ, ◌≡◌, ◌+◌, ◌<◌, MatchOption, length, min, slice_index, take, drop};
 ghost use Rattle.std.proofs.lemmas.List.Edits.{sets};
-ghost use Rattle.numbers.specs.Numbers.{number_at, put_number, one_if};
+ghost use Rattle.numbers.specs.Numbers.{number_at, put_number};
 
 // The N bytes from byte i on, where all are there.
 fn whole_at<const N: usize>(s: &[u8], i: usize) -> Option<&[u8; N]>
@@ -104,20 +104,6 @@ pub fn put_word(out: &mut [u8], i: usize, x: u32)
     ensures { out.new ≡ put_number 4 out.old i x }
 {
     put_bytes(out, i, x.to_be_bytes());
-}
-
-// A test as a number: 1 where it holds, 0 where it does not.
-pub fn one_if(holds: bool) -> u32
-    ensures { result ≡ one_if holds }
-{
-    u32::from(holds)
-}
-
-// The lower of two numbers.
-pub fn at_most(n: usize, most: usize) -> usize
-    ensures { result ≡ min n most }
-{
-    n.min(most)
 }
 
 // n bytes from one offset on, put from another on in other bytes. Of those past an end none is read, and none is put.
