@@ -1,9 +1,8 @@
 // Numbers of 1, 2 and 4 bytes that start at byte i, high byte first, read and put directly. A byte past the end reads as 0, and one that
-// would be put there is dropped. What they mean is a field at a bit position, which `specs` says for every width. At the end, two small functions
-// on numbers that several crates need.
+// would be put there is dropped. What they mean is a field at a bit position, which `specs` says for every width.
 #![tactic(auto)]
 
-ghost use Rattle.std.specs.Prelude.{ℕ, ◌≡◌, ◌+◌, ◌<◌, MatchOption, length, min, slice_index, take, drop};
+ghost use Rattle.std.specs.Prelude.{ℕ, ◌≡◌, ◌+◌, ◌<◌, MatchOption, length, slice_index, take, drop};
 ghost use Rattle.std.proofs.lemmas.List.Edits.{sets};
 ghost use Rattle.numbers.specs.Numbers.{number_at, put_number};
 
