@@ -1,4 +1,4 @@
-// A train record as the numbers that C reads: where there is no position, authority, signal or limit, the number is that of none.
+// A train record as the numbers that C reads: where there is no position, authority, danger location or limit, the number is that of none.
 ghost use Rattle.std.specs.Prelude.{◌≡◌};
 ghost use Rattle.host.specs.Told.{order_told, train_told, train_refused};
 

@@ -107,7 +107,7 @@ fn both(l2: Named, l1: Named) -> Result<(Live, Live), Refusal>
     }
 }
 
-// SOS between two trains that were named: the cell and the shares are looked up once, then all is judged.
+// SOS between two trains that were named: their names are judged, the cell and the shares are looked up once, then all else is judged.
 pub fn raise(
     margin: u32,
     grid: u32,

@@ -30,7 +30,7 @@ pub enum Refusal {
     BadLocation,
     // no grid has this number
     BadGrid,
-    // flags that are not 91 of 0 or 1
+    // flags that are not 91 of 0 or 1, or a row whose mode is none
     BadFlags,
     // a train of an SOS whose mode has no row class
     NoClass,

@@ -1,4 +1,4 @@
-// How many slots a request needs, and what a search for free ones finds.
+// Which requests for bytes there are, and how many slots one needs.
 ghost use Rattle.std.specs.Prelude.{◌≡◌};
 ghost use Rattle.rules.specs.Slots.{is_request, slots_for};
 
