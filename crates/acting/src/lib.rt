@@ -23,7 +23,11 @@ fn end_told(end: Option<u32>) -> Told
     ensures { accepted_by result ≡ end_answer end }
 {
     match end {
-        None => Told::nothing(),
+        None => Told {
+            first: 0,
+            second: 0,
+            third: 0,
+        },
         Some(location) => Told {
             first: 1,
             second: location,
@@ -103,7 +107,7 @@ pub fn on(named: Named, deed: Deed, flags: &[u8], counter: Ticket) -> Result<Rul
     ensures { ruling_meant counter result ≡ ruled counter (deed_ground (named_meant named) (done (meant deed flags.now) (named_meant named).train))
         (deed_done counter (named_meant named) (done (meant deed flags.now) (named_meant named).train)) }
 {
-    let live = named.train()?;
+    let live = named.live_train()?;
     let changed = act(deed, flags, live.train)?;
     Ok(Ruling {
         told: changed.told,
@@ -116,6 +120,6 @@ pub fn on(named: Named, deed: Deed, flags: &[u8], counter: Ticket) -> Result<Rul
 pub fn end_asked(named: Named) -> Result<Told, Refusal>
     ensures { answer_meant result ≡ end_asked (named_meant named) }
 {
-    let asked = named.train()?;
+    let asked = named.live_train()?;
     Ok(end_told(asked.train.end()))
 }

@@ -27,7 +27,7 @@ fn has_entry(s: &[u8], at: usize) -> bool
 }
 
 // Row i, where it is one of the register's, from an offset to another, by way of other bytes.
-// Tried: std's copy_within is proved too, and takes 154 instructions a row where the compiler can't tell which way it goes; this takes 27.
+// std's copy_within takes 154 instructions a row where the compiler can't tell which way it goes; this takes 27.
 fn copy_row(s: &mut [u8], i: u32, from: usize, to: usize)
     requires { from + row_bytes ≤ length s.old }
     ensures { s.new ≡ row_copied s.old i from to }

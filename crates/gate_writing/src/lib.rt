@@ -4,7 +4,7 @@
 ghost use Rattle.std.specs.Prelude.{◌≡◌, ◌+◌, ◌*◌, ◌≤◌, length, get_or, refl};
 ghost use Rattle.std.proofs.Common.{lit≤};
 ghost use Rattle.profiles.specs.Writing.{write_answer, write_into};
-ghost use Rattle.gates.specs.Gates.{gate_profile, gate_bytes, most_gates};
+ghost use Rattle.gates.specs.Gates.{gate_profile, gate_bytes, distance_width, most_gates};
 ghost use Rattle.gates.proofs.GateLaws.{regular};
 
 use framing::refusals;
@@ -12,8 +12,8 @@ use framing::refusals::Refusal;
 use profiles::writing::Entry;
 use profiles::{EntriesWritten, writing};
 
-// The highest that a distance's high byte may be: it has 7 bits.
-const LAST_HIGH: u32 = 127;
+// The highest that a distance's high byte may be: it has what the width has above 8 bits.
+const LAST_HIGH: u32 = (1 << (gates::DISTANCE_WIDTH - 8)) - 1;
 
 fn wide(x: u8) -> u32
     ensures { (result ≡ x) × (result ≤ 255) }
@@ -94,7 +94,7 @@ impl Entry for Gate {
         p + bits
     }
 
-    ghost regular = { regular 15 (lit≤ tt) };
+    ghost regular = { regular distance_width (lit≤ tt) };
 
     ghost bytes_are = { refl };
 

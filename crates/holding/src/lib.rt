@@ -9,7 +9,7 @@ ghost use Rattle.holding.specs.Held.{held_bytes, held_at, nothing_held, behind_b
 use std::io::Read;
 
 // The bytes of the buffer from `at` up to `end`. The input has ended once a read has given nothing, and failed where that read did.
-// Two flags and no enum, since what may not change: `ready` and `Held::is_end` take an input with either of them and with both.
+// Two flags and no enum: `ready` and `Held::is_end` answer for an input with neither of them, with either and with both.
 #[derive(Clone, Copy, Default)]
 pub struct Held {
     pub at: usize,

@@ -1,2 +1,3 @@
 pub mod RangeLaws
 pub mod FoundLaws
+pub mod OrderLaws

@@ -20,7 +20,8 @@ use Rattle.turns.specs.declared.Turn.{Turn}
 use Rattle.turns.proofs.PlacingLaws.{put-none, put-put, put-nothing}
 use Rattle.turns.proofs.TurnLaws.{one_most}
 use Rattle.listing.specs.Listing.{listed_from, listing, left}
-use Rattle.listing.specs.Whole.{output_too_small, listed_into, IsPutFrom}
+use Rattle.listing.specs.declared.whole.Refused.TheVariants.{OutputTooSmall}
+use Rattle.listing.specs.Whole.{listed_into, IsPutFrom}
 use Rattle.listing.proofs.ListingLaws.{turned, ended, used-inside, not_last}
 
 -- what stands from an offset on, as a part that is lent
@@ -150,7 +151,7 @@ none_before (x ∷ s) t e = absurd (omega arith)
 
 module _ (input output : List ℕ) (n : ℕ) (e : n ≡ 0 + length (listing input)) where
   pub list-refused : length output < n
-      → (Err output_too_small ≡ listed_into (length output) input) × (output ≡ put_at output 0 (listing input))
+      → (Err OutputTooSmall ≡ listed_into (length output) input) × (output ≡ put_at output 0 (listing input))
   unfolding listed_into
   list-refused h = (
     rw (lt-leb (length (listing input)) (length output) (omega arith)),

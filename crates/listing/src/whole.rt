@@ -3,14 +3,26 @@ ghost use Rattle.std.specs.Prelude.{◌≡◌, ◌≤◌, length};
 ghost use Rattle.lines.specs.Line.{room};
 ghost use Rattle.listing.specs.Listing.{listed_from, listing};
 ghost use Rattle.turns.specs.Placing.{put_at};
-ghost use Rattle.listing.specs.Whole.{listed_into, IsPutFrom};
+ghost use Rattle.listing.specs.Whole.{number_of, listed_into, IsPutFrom};
 
 use crate::runs;
 
-// The grounds of refusal, by their numbers. The only one: the output is too small for the listing.
-#[derive(Clone, Copy, Debug, PartialEq, Eq)]
+// The grounds of refusal. The only one: the output is too small for the listing.
+#[derive(Clone, Copy)]
 pub enum Refused {
-    OutputTooSmall = 1,
+    OutputTooSmall,
+}
+
+impl Refused {
+    // The number that is told of it.
+    #[tactic(auto, unfolding(crate::specs::Whole::number_of))]
+    pub fn number(self) -> u32
+        ensures { result ≡ number_of self }
+    {
+        match self {
+            Refused::OutputTooSmall => 1,
+        }
+    }
 }
 
 // The lines of the records from `from` on, and the last line, each put where it fits. Gives where they end.

@@ -7,7 +7,7 @@ ghost use Rattle.std.specs.Prelude.{◌≡◌, ◌<◌, ◌≤◌, length};
 
 use listing::whole;
 
-// The descriptors of the standard input and output. Both go by `io`: std's reader and writer would rest on one more contract of the toolchain each.
+// The descriptors of the standard input and output. Both go by `io`: std's printing would rest on one more contract of the toolchain, that of the error's number.
 const STDIN_FILENO: i32 = 0;
 
 const STDOUT_FILENO: i32 = 1;
@@ -29,7 +29,7 @@ fn small(n: u32) -> usize
 fn run_list(recording: &[u8], output: &mut [u8]) {
     let (answer, written) = match whole::list(recording, output) {
         Ok(written) => (0, written),
-        Err(refused) => (refused as u64, 0),
+        Err(refused) => (u64::from(refused.number()), 0),
     };
     io::print_decimal(STDOUT_FILENO, answer);
     io::write_all(STDOUT_FILENO, b" ");

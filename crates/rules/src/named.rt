@@ -23,7 +23,7 @@ pub struct Named {
 impl Named {
     // The train that is named, or the ground on which its name is refused.
     #[tactic(auto, unfolding(crate::specs::Meant::live_train))]
-    pub fn train(self) -> Result<Live, Refusal>
+    pub fn live_train(self) -> Result<Live, Refusal>
         ensures { result ≡ live_train self }
     {
         if !self.loco.in_range() {

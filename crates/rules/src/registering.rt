@@ -42,14 +42,18 @@ pub fn grant(loco: Loco, slots: u32, ticket: Ticket, row: usize, start: Slot) ->
 pub fn release(named: Named, counter: Ticket) -> Result<Ruling, Refusal>
     ensures { ruling_meant counter result ≡ ruled counter (name_ground (named_meant named) 0) (released counter (named_meant named)) }
 {
-    let live = named.train()?;
+    let live = named.live_train()?;
     let freed = Run {
         start: live.train.start,
         slots: live.train.slots,
         taken: false,
     };
     Ok(Ruling {
-        told: Told::nothing(),
+        told: Told {
+            first: 0,
+            second: 0,
+            third: 0,
+        },
         counter,
         effect: Effect::on_row_and_run(live.row, Train::blank(), freed),
     })

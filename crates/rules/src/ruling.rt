@@ -1,7 +1,7 @@
 // What the rules say of an operation: what a call answers, the ticket counter afterwards, and the effect on the view.
 ghost use Rattle.std.specs.Prelude.{◌≡◌};
 ghost use Rattle.rules.specs.Ruling.{accepted_with, refused_with};
-ghost use Rattle.rules.specs.Meant.{accepted_by, answer_meant};
+ghost use Rattle.rules.specs.Meant.{answer_meant};
 
 use crate::effect::Effect;
 use crate::refusals::Refusal;
@@ -31,19 +31,6 @@ pub struct Ruling {
     pub told: Told,
     pub counter: Ticket,
     pub effect: Effect,
-}
-
-impl Told {
-    // Nothing is told: zeros.
-    pub fn nothing() -> Told
-        ensures { accepted_by result ≡ accepted_with 0 0 0 }
-    {
-        Told {
-            first: 0,
-            second: 0,
-            third: 0,
-        }
-    }
 }
 
 impl Answer {

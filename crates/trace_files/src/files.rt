@@ -12,8 +12,8 @@ const MOST_ENTRIES: u64 = 194176253407468964;
 
 // A trace between two turns: what is held of it, the entries that were right, and the mode after of the last of them, or none. It is over once nothing
 // is left, or an entry is not right: then what is held begins with that one, judged so.
-// That the entries are no more than the most is a clause where it is needed, and no ghost field: what may not change, `right_on` of specs/Turns.antt,
-// counts one more whatever the file, and would have to hold a proof.
+// That the entries are no more than the most is a clause where it is needed, and no ghost field: `right_on` of specs/Turns.antt counts one more
+// whatever the file, and would have to hold a proof.
 #[derive(Clone, Copy)]
 pub(crate) struct File {
     pub held: Held,

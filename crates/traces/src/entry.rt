@@ -29,8 +29,8 @@ pub const BEFORE: u32 = 1;
 
 const AFTER: u32 = 2;
 
-// What an entry is judged: refused, or one of its modes wrong and another due, or right. It is what `kb_check_trace_entry` hands to C, so the answer, which
-// of the modes is wrong, and the mode due are numbers.
+// What an entry is judged: refused, or one of its modes wrong and another due, or right. It is what `kb_check_trace_entry` hands to C, so the
+// answer, which of the modes is wrong, and the mode due are numbers.
 #[repr(C)]
 #[derive(Clone, Copy)]
 pub struct Judged {

@@ -17,7 +17,8 @@ const MARGIN: u32 = 300;
 
 const STANDARD_OUTPUT: i32 = 1;
 
-// The standard output. It goes by `io`: `println!` would rest on one more contract of the toolchain, that of the error's number, which nothing here asks for.
+// The standard output. It goes by `io`: `println!` would rest on one more contract of the toolchain, that of the error's number, which nothing
+// here asks for.
 #[derive(Drop)]
 struct Output;
 

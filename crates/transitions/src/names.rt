@@ -1,4 +1,5 @@
-// The modes and their numbers. They stay numbers and no enum: `is_mode`, `first`, `leaving` and `leaves_from` answer for any number, and C hands over such.
+// The modes and their numbers. They are numbers and no enum: `is_mode`, `first`, `leaving` and `leaves_from` answer for any number, and C hands
+// over such.
 ghost use Rattle.std.specs.Prelude.{◌≡◌};
 ghost use Rattle.transitions.specs.Names.{is_mode};
 

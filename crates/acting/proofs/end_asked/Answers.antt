@@ -9,7 +9,7 @@ use Rattle.acting.proofs.end_asked.Goals as goal
 pub returns-in_err-asked : goal.returns-in_err-asked
 unfolding end_asked
 returns-in_err-asked c =
-    ap answer_meant (met _ _ c.from_residual.ensures.1) ∙ answer_refused c.args.named _ _ (sym c.train.ensures ∙ c.in_err-asked.was)
+    ap answer_meant (met _ _ c.from_residual.ensures.1) ∙ answer_refused c.args.named _ _ (sym c.live_train.ensures ∙ c.in_err-asked.was)
 
 pub returns : goal.returns
-returns c = c.end_told.ensures ∙ ap end_answer c.end.ensures ∙ end_there c.args.named _ (sym c.train.ensures ∙ c.in_ok-asked.was)
+returns c = c.end_told.ensures ∙ ap end_answer c.end.ensures ∙ end_there c.args.named _ (sym c.live_train.ensures ∙ c.in_ok-asked.was)
