@@ -17,6 +17,7 @@ use std::io::{Read, Write};
 mod pending;
 
 // A play between two records. It is over once its last record is listed.
+// `over` is a flag by itself: no other field has a meaning only where it is set, so an Option would have nothing to hold.
 #[derive(Clone, Copy)]
 struct Play {
     held: Held,
@@ -144,6 +145,7 @@ fn played<R: Read, W: Write>(
         (bytes session.new input.new output.new) result }
 {
     let mut play = Play::begun(output);
+    // no `for`: how many records come is known only once they are read
     while play.goes_on() {
         play = play.step(reader, out, session, input, output);
     }

@@ -7,6 +7,7 @@ ghost use Rattle.bench.specs.Pending.{pending_bytes, nothing_pending, with_more,
 use std::io::Write;
 
 // The first `filled` bytes of the buffer. It is writable until a write fails.
+// A count and no slice: the buffer is lent anew for each turn. No Option around it: `with_more` of specs/Pending.antt counts on whatever `writable` says.
 #[derive(Clone, Copy)]
 pub(crate) struct Pending {
     pub filled: usize,

@@ -83,6 +83,7 @@ fn read_on<R: Read>(reader: &mut R, buffer: &mut [u8], kept: usize, longest: usi
         → IsAtEnd (R.remaining reader.new) }
 {
     let mut end = kept;
+    // no `for`: how many bytes a read gives is known only once it has given them
     while end < longest {
         match reader.read(&mut buffer[end..]) {
             Ok(0) => return Held::last(end, false),

@@ -34,6 +34,7 @@ fn put_records(recording: &[u8], session: &mut [u8], output: &mut [u8], from: us
     let mut at = 0;
     let mut lines: u64 = 0;
     let mut accepted: u64 = 0;
+    // no `for`: each record tells where the next one starts
     while at < recording.len() {
         let turn = runs::next(session, &recording[at..], lines as u32, output, written);
         at += turn.used;

@@ -52,6 +52,7 @@ fn run_case(s: &[u8]) -> usize
     next
 }
 
+// A `for` is no plainer here: each case tells where the next one starts.
 fn run_all(s: &[u8]) {
     let mut at = 0;
     while at < s.len() {

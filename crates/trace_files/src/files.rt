@@ -11,7 +11,8 @@ use traces::entry::Judged;
 const MOST_ENTRIES: u64 = 194176253407468964;
 
 // A trace between two turns: what is held of it, the entries that were right, and the mode after of the last of them, or none. It is over once nothing
-// is left, or an entry is not right: then what is held begins with that one, judged so.
+// is left, or an entry is not right: then what is held begins with that one, judged so. `over` is a flag by itself: no other field has a meaning only
+// where it is set, so an Option would have nothing to hold.
 // That the entries are no more than the most is a clause where it is needed, and no ghost field: `right_on` of specs/Turns.antt counts one more
 // whatever the file, and would have to hold a proof.
 #[derive(Clone, Copy)]
@@ -94,6 +95,7 @@ pub(crate) fn check_all<R: Read>(reader: &mut R, input: &mut [u8]) -> File
     ensures { IsChecked input.old input.new result }
 {
     let mut file = File::begun();
+    // no `for`: how many entries come is known only once they are read
     while file.goes_on() {
         file = file.step(reader, input);
     }

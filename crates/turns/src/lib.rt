@@ -14,6 +14,7 @@ use records::told::Ran;
 mod placing;
 
 // What a turn tells: the bytes of its line, the bytes that the record used, 1 if it was accepted, and whether nothing is listed behind it.
+// `accepted` is a number, since a listing adds it up.
 #[derive(Clone, Copy)]
 pub struct Turn {
     pub length: usize,
