@@ -13,7 +13,7 @@ use Rattle.numbers.proofs.FieldLaws.{field_lt}
 use Rattle.framing.specs.Refusals.{none, unless_refused}
 use Rattle.framing.proofs.RefusalLaws.{unless-none, unless-some}
 use Rattle.gates.specs.declared.forms.Form.{Form}
-use Rattle.gate_moving.specs.Moving.{move_into}
+use Rattle.gate_moving.specs.Moving.{move_answer, move_into}
 use Rattle.gate_moving.specs.declared.GatesMoved.{GatesMoved}
 use Rattle.gate_moving.proofs.MoveLaws.{took}
 use Rattle.holding.specs.declared.Held.{Held}
@@ -140,35 +140,36 @@ module _ (from : Form) (file : File) (held : Held) (first : List ℕ) where
   abbrev made : List ℕ
   made = unless_refused (first_moved from first).answer (first_made from first) []
 
-  pub moves-none : (out : List ℕ) {r : File} → is_end held first ≡ true → r ≡ stopped_at file held None → MovesFirst from file held first out r
-  moves-none out e k = record {
-    result = k ∙ ap (λ (b : Bool). cond b (stopped_at file held None) answered) (sym e);
-    text = ap (λ (q : File). take q.made out) k ∙ ap (λ (b : Bool). cond b [] made) (sym e);
-  }
+  -- `moved` is what the move into a blank output answered, and `out` what it left
+  module _ {moved : GatesMoved} {before out : List ℕ} (some : is_end held first ≡ false) (clear : before ≡ blank) (answers : moved ≡ move_answer from first before)
+      (leaves : out ≡ move_into from first before) where
+    says : moved ≡ first_moved from first
+    says = answers ∙ ap (move_answer from first) clear
 
-  -- `moved` is what the move answered, and `out` what it left
-  module _ (moved : GatesMoved) (out : List ℕ) (e : is_end held first ≡ false) (says : moved ≡ first_moved from first) (left : out ≡ move_into from first blank) where
+    left : out ≡ move_into from first blank
+    left = leaves ∙ ap (move_into from first) clear
+
     pub moves-refused : {r : File} → (moved.answer ≡ 0 → ⊥) → r ≡ stopped_at file held (Some (refused_by moved)) → MovesFirst from file held first out r
     moves-refused ne k =
-        let some : (first_moved from first).answer ≡ 0 → ⊥ = λ z. ne (ap (λ (a : GatesMoved). a.answer) says ∙ z) in record {
-          result = k ∙ ap (λ (a : GatesMoved). stopped_at file held (Some (refused_by a))) says ∙ sym (unless-some _ _ _ some)
-              ∙ ap (λ (b : Bool). cond b (stopped_at file held None) answered) (sym e);
-          text = ap (λ (q : File). take q.made out) k ∙ sym (unless-some _ _ _ some) ∙ ap (λ (b : Bool). cond b [] made) (sym e);
+        let is : (first_moved from first).answer ≡ 0 → ⊥ = λ z. ne (ap (λ (a : GatesMoved). a.answer) says ∙ z) in record {
+          result = k ∙ ap (λ (a : GatesMoved). stopped_at file held (Some (refused_by a))) says ∙ sym (unless-some _ _ _ is)
+              ∙ ap (λ (b : Bool). cond b (stopped_at file held None) answered) (sym some);
+          text = ap (λ (q : File). take q.made out) k ∙ sym (unless-some _ _ _ is) ∙ ap (λ (b : Bool). cond b [] made) (sym some);
         }
 
+    accepted : moved.answer ≡ 0 → (first_moved from first).answer ≡ 0
+    accepted z = sym (ap (λ (a : GatesMoved). a.answer) says) ∙ z
+
     pub moves-one : {r : File} → moved.answer ≡ 0 → r ≡ moved_on file held moved → MovesFirst from file held first out r
-    moves-one z k =
-        let clear : (first_moved from first).answer ≡ 0 = sym (ap (λ (a : GatesMoved). a.answer) says) ∙ z in record {
-          result = k ∙ ap (moved_on file held) says ∙ sym (unless-none _ _ _ clear) ∙ ap (λ (b : Bool). cond b (stopped_at file held None) answered) (sym e);
-          text = (λ i. take ((ap (λ (q : File). q.made) k ∙ ap (λ (a : GatesMoved). a.written) says) i) (left i)) ∙ sym (unless-none _ _ _ clear)
-              ∙ ap (λ (b : Bool). cond b [] made) (sym e);
-        }
+    moves-one z k = record {
+      result = k ∙ ap (moved_on file held) says ∙ sym (unless-none _ _ _ (accepted z)) ∙ ap (λ (b : Bool). cond b (stopped_at file held None) answered) (sym some);
+      text = (λ i. take ((ap (λ (q : File). q.made) k ∙ ap (λ (a : GatesMoved). a.written) says) i) (left i)) ∙ sym (unless-none _ _ _ (accepted z))
+          ∙ ap (λ (b : Bool). cond b [] made) (sym some);
+    }
 
     -- its bytes are a sub-packet's
     pub one-short : moved.answer ≡ 0 → moved.used ≤ longest
-    one-short z =
-        let clear : (first_moved from first).answer ≡ 0 = sym (ap (λ (a : GatesMoved). a.answer) says) ∙ z in
-        omega (arith, ap (λ (a : GatesMoved). a.used) says, (took from first blank clear).used, field_lt first 4 7)
+    one-short z = omega (arith, ap (λ (a : GatesMoved). a.used) says, (took from first blank (accepted z)).used, field_lt first 4 7)
 
 -- ---- ALL TURNS
 
@@ -239,21 +240,23 @@ module _ {from : Form} {file : File} {before after out : List ℕ} {r : File} (t
       of (refused e ne k x) = absurd (stopped t.held.failed (ap (λ (q : File). q.over) k) (ap (λ (q : File). q.held.failed) k))
       of (moved e z k x) = ap (λ (q : File). q.packets) k
 
-pub going_next : {from : Form} {start before after out : List ℕ} {file r : File} → Going from start before file → goes_on file ≡ true
-    → IsTurn from file before after out r → (writable : Bool) → Going from start after (with_written writable r)
-going_next g on t writable = record { read = _; sent = _; turns = next g.turns on t writable; short = turn-short t g.short }
+pub going_next : {from : Form} {start before after out : List ℕ} {file r w : File} → Going from start before file → goes_on file ≡ true
+    → IsTurn from file before after out r → w ≡ with_written w.writable r → Going from start after w
+going_next {r = r} {w = w} g on t e =
+    subst (Going _ _ _) (sym e) (record { read = _; sent = _; turns = next g.turns on t w.writable; short = turn-short t g.short })
 
 -- the sub-packets that a file can still have
 abbrev pub can_have : File → ℕ
 can_have file = cond (goes_on file) (most_packets - file.packets) 0
 
-pub fewer : {from : Form} {before after out : List ℕ} {file r : File} → goes_on file ≡ true → IsTurn from file before after out r → (writable : Bool)
-    → can_have (with_written writable r) < can_have file
-fewer {file = file} {r = r} on t writable = rw on (of (goes_on (with_written writable r)) refl)
+pub fewer : {from : Form} {before after out : List ℕ} {file r w : File} → goes_on file ≡ true → IsTurn from file before after out r
+    → w ≡ with_written w.writable r → can_have w < can_have file
+fewer {file = file} {r = r} {w = w} on t e =
+    rw on (subst (λ (q : File). can_have q < most_packets - file.packets) (sym e) (of (goes_on (with_written w.writable r)) refl))
   where
-    of : (c : Bool) → goes_on (with_written writable r) ≡ c → cond c (most_packets - r.packets) 0 < most_packets - file.packets
-    of true g = omega (arith, turn-packets t writable g, (goes_on_lem file on).2)
-    of false g = omega (arith, (goes_on_lem file on).2)
+    of : (c : Bool) → goes_on (with_written w.writable r) ≡ c → can_have (with_written w.writable r) < most_packets - file.packets
+    of true g = rw g (omega (arith, turn-packets t w.writable g, (goes_on_lem file on).2))
+    of false g = rw g (omega (arith, (goes_on_lem file on).2))
 
 -- THE FILE IS MOVED once it is over
 pub all_moved_lem : {from : Form} {start input : List ℕ} {file : File} → Going from start input file → goes_on file ≡ false → IsMoved from start input file

@@ -3,6 +3,7 @@
 #![tactic(auto)]
 
 mod files;
+mod outcome;
 mod telling;
 
 use gates::forms::Form;
@@ -21,10 +22,10 @@ fn asked(rt: &HostRuntime) -> Option<Form> {
 
 fn main(rt: HostRuntime) {
     let Some(form) = asked(&rt) else {
-        telling::unclear();
+        telling::unclear(&rt);
         return;
     };
     let mut input = io::large_buffer();
-    let file = files::move_all(&mut rt.stdin(), form, &mut input);
-    telling::finish(file);
+    let file = files::move_all(&mut rt.stdin(), &mut rt.stdout(), form, &mut input);
+    telling::finish(&rt, file);
 }

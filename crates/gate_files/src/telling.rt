@@ -1,106 +1,80 @@
-// What a person and the calling script are told of a file that was moved.
+// What a person and the calling script are told of a file that was moved: what stopped it on standard error, and the outcome on a descriptor of its own.
 ghost use Rattle.std.specs.Prelude.{◌≡◌};
 ghost use Rattle.gate_files.specs.Outcome.{outcome_of};
 
 use crate::files::{File, Refused};
+use crate::outcome::Outcome;
 
-// The descriptor of the standard error.
-const STDERR_FILENO: i32 = 2;
-
-// Where the outcome is told, as a digit.
+// Where the outcome is told, as a digit. std has no handle for this descriptor, so the kit's `io` writes it.
 const OUTCOME_FILENO: i32 = 3;
 
-const ALL_MOVED: u64 = 0;
-
-const WAS_REFUSED: u64 = 1;
-
-const NOT_DONE: u64 = 2;
-
-fn say(text: &[u8]) {
-    io::write_all(STDERR_FILENO, text);
-}
-
-fn say_number(n: u64) {
-    io::print_decimal(STDERR_FILENO, n);
-}
-
-fn tell(outcome: u64) {
-    io::print_decimal(OUTCOME_FILENO, outcome);
+fn tell(outcome: Outcome) {
+    io::print_decimal(OUTCOME_FILENO, outcome.digit());
 }
 
 // No way that is known was asked for.
-pub(crate) fn unclear() {
-    say(b"bench: gates are moved forward or back; give one of the two words\n");
-    tell(NOT_DONE);
+pub(crate) fn unclear(rt: &impl Eprint) {
+    let _ = eprintln!(rt; "bench: gates are moved forward or back; give one of the two words");
+    tell(Outcome::NotDone);
 }
 
 // Why, and what to look at. Only bytes can be missing: there is room for every sub-packet.
-fn say_reason(answer: u32) {
-    match answer {
-        1 => say(b"the file ends within it; give the whole file"),
-        2 => say(
-            b"its type is not 3, so it is no gate sub-packet; see where the one before it ends",
-        ),
-        3 => say(
-            b"its length is not that of so many gates, or they are more than 28, the most of the new form; see whether the file has the other form already, or split the list",
-        ),
-        4 => say(
-            b"a gate's number is not 1 to 1022, or its suffix, class or whistling type is a spare value; correct the field at the place",
-        ),
-        5 => say(
-            b"the bits that fill up its last byte are not zero; clear them, or see whether the file is damaged",
-        ),
-        _ => say(
-            b"a distance is no multiple of 10 or above 5,110 metres; keep this list in the new form, or change the distance",
-        ),
+fn reason(number: u32) -> &'static str {
+    match number {
+        1 => "the file ends within it; give the whole file",
+        2 => "its type is not 3, so it is no gate sub-packet; see where the one before it ends",
+        3 =>
+            "its length is not that of so many gates, or they are more than 28, the most of the new form; see whether the file has the other form already, or split the list",
+        4 =>
+            "a gate's number is not 1 to 1022, or its suffix, class or whistling type is a spare value; correct the field at the place",
+        5 =>
+            "the bits that fill up its last byte are not zero; clear them, or see whether the file is damaged",
+        _ =>
+            "a distance is no multiple of 10 or above 5,110 metres; keep this list in the new form, or change the distance",
     }
 }
 
-fn say_refused(file: File, refused: Refused) {
-    say(b"bench: sub-packet ");
-    say_number(file.packets as u64 + 1);
-    say(b" at byte ");
-    say_number(file.used);
-    say(b" is refused: answer ");
-    say_number(refused.number as u64);
-    say(b", place ");
-    say_number(refused.place as u64);
-    say(b": ");
-    say_reason(refused.number);
-    say(b"\n");
+fn say_refused(rt: &impl Eprint, file: File, refused: Refused) {
+    let packet = file.packets as u64 + 1;
+    let used = file.used;
+    let Refused { number, place } = refused;
+    let reason = reason(number);
+    let _ = eprintln!(rt;
+        "bench: sub-packet {packet} at byte {used} is refused: answer {number}, place {place}: {reason}"
+    );
 }
 
 // Says what stopped the file, if anything did, and gives the outcome.
-fn outcome(file: File) -> u64
+#[tactic(auto, unfolding(crate::specs::Outcome::outcome_of))]
+fn outcome(rt: &impl Eprint, file: File) -> Outcome
     ensures { result ≡ outcome_of file }
 {
     if file.held.failed {
-        say(
-            b"bench: the file cannot be read to its end; see whether it is a file, and its disk is sound\n",
+        let _ = eprintln!(rt;
+            "bench: the file cannot be read to its end; see whether it is a file, and its disk is sound"
         );
-        return NOT_DONE;
+        return Outcome::NotDone;
     }
     if !file.writable {
-        say(
-            b"bench: the moved sub-packets cannot be written; see whether there is room, and whether the output is still read\n",
+        let _ = eprintln!(rt;
+            "bench: the moved sub-packets cannot be written; see whether there is room, and whether the output is still read"
         );
-        return NOT_DONE;
+        return Outcome::NotDone;
     }
     if !file.over {
-        say(
-            b"bench: 4,294,967,295 sub-packets are moved, the most at a time; move what stands in the file from byte ",
+        let used = file.used;
+        let _ = eprintln!(rt;
+            "bench: 4,294,967,295 sub-packets are moved, the most at a time; move what stands in the file from byte {used} on, if anything does, by itself"
         );
-        say_number(file.used);
-        say(b" on, if anything does, by itself\n");
-        return NOT_DONE;
+        return Outcome::NotDone;
     }
     if let Some(refused) = file.refused {
-        say_refused(file, refused);
-        return WAS_REFUSED;
+        say_refused(rt, file, refused);
+        return Outcome::WasRefused;
     }
-    ALL_MOVED
+    Outcome::AllMoved
 }
 
-pub(crate) fn finish(file: File) {
-    tell(outcome(file));
+pub(crate) fn finish(rt: &impl Eprint, file: File) {
+    tell(outcome(rt, file));
 }
