@@ -135,6 +135,7 @@ pub(crate) fn move_all<R: Read, W: Write>(
     ensures { IsMoved from input.old input.new result }
 {
     let mut file = File::begun();
+    // no `for`: how many sub-packets come is known only once they are read
     while file.goes_on() {
         let mut out = [0u8; LONGEST];
         let made = file.step(reader, from, input, &mut out);
