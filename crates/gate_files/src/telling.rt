@@ -35,7 +35,7 @@ fn reason(number: u32) -> &'static str {
 }
 
 fn say_refused(rt: &impl Eprint, file: File, refused: Refused) {
-    let packet = file.packets as u64 + 1;
+    let packet = u64::from(file.packets) + 1;
     let used = file.used;
     let Refused { number, place } = refused;
     let reason = reason(number);

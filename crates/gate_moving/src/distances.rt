@@ -47,5 +47,5 @@ pub(crate) fn restated(from: Form, gate: u64) -> u64
     ensures { result ≡ restated_distance from (digits gate) % 65536 * 1048576 + gate % 1048576 }
 {
     let distance = metres_of(from, gate) / from.other().layout().unit % 65536;
-    distance as u64 * gates::DISTANCE_WEIGHT + gate % gates::DISTANCE_WEIGHT
+    u64::from(distance) * gates::DISTANCE_WEIGHT + gate % gates::DISTANCE_WEIGHT
 }

@@ -15,18 +15,12 @@ use profiles::{EntriesWritten, writing};
 // The highest that a distance's high byte may be: it has what the width has above 8 bits.
 const LAST_HIGH: u32 = (1 << (gates::DISTANCE_WIDTH - 8)) - 1;
 
-fn wide(x: u8) -> u32
-    ensures { (result ≡ x) × (result ≤ 255) }
-{
-    x as u32
-}
-
 // The number that two bytes of a list are, the high one first.
 fn pair_at(list: &[u8], i: usize) -> u32
     requires { i + 2 ≤ length list.now }
     ensures { (result ≡ get_or list.now i 0 * 256 + get_or list.now (i + 1) 0) × (result ≤ 65535) }
 {
-    wide(list[i]) * 256 + wide(list[i + 1])
+    u32::from(list[i]) * 256 + u32::from(list[i + 1])
 }
 
 struct Gate;
@@ -49,19 +43,19 @@ impl Entry for Gate {
     // Only the distance's high piece, manning and whistling are judged by their widths: a whole byte is as wide as its piece, and the rules allow no
     // number, suffix, class or whistling type as high as a value that is too wide.
     fn judge(list: &[u8], at: usize) -> Result<(), Refusal> {
-        if LAST_HIGH < wide(list[at]) {
+        if LAST_HIGH < u32::from(list[at]) {
             return Err(Refusal::TooWide);
         }
-        if 1 < wide(list[at + 5]) {
+        if 1 < u32::from(list[at + 5]) {
             return Err(Refusal::TooWide);
         }
-        if 1 < wide(list[at + 7]) {
+        if 1 < u32::from(list[at + 7]) {
             return Err(Refusal::TooWide);
         }
         let number = pair_at(list, at + 2);
-        let suffix = wide(list[at + 4]);
-        let class = wide(list[at + 6]);
-        let whistle = wide(list[at + 8]);
+        let suffix = u32::from(list[at + 4]);
+        let class = u32::from(list[at + 6]);
+        let whistle = u32::from(list[at + 8]);
         match gates::judge_fields(gates::DISTANCE_WIDTH, number, suffix, class, whistle) {
             Ok(_) => Ok(()),
             Err(_) => Err(Refusal::NotAllowed(refusals::NOWHERE)),
@@ -80,13 +74,13 @@ impl Entry for Gate {
     // ends.
     fn put(out: &mut [u8], p: usize, list: &[u8], at: usize) -> usize {
         let bits = gates::gate_bits(gates::DISTANCE_WIDTH);
-        let far = pair_at(list, at) as u64;
-        let number = (pair_at(list, at + 2) % 1024) as u64;
-        let suffix = (wide(list[at + 4]) % 8) as u64;
-        let manning = (wide(list[at + 5]) % 2) as u64;
-        let class = (wide(list[at + 6]) % 8) as u64;
-        let whistling = (wide(list[at + 7]) % 2) as u64;
-        let whistle = (wide(list[at + 8]) % 4) as u64;
+        let far = u64::from(pair_at(list, at));
+        let number = u64::from(pair_at(list, at + 2) % 1024);
+        let suffix = u64::from(list[at + 4] % 8);
+        let manning = u64::from(list[at + 5] % 2);
+        let class = u64::from(list[at + 6] % 8);
+        let whistling = u64::from(list[at + 7] % 2);
+        let whistle = u64::from(list[at + 8] % 4);
         let numbered = far * gates::DISTANCE_WEIGHT + number * gates::NUMBER_WEIGHT;
         let manned = suffix * gates::SUFFIX_WEIGHT + manning * gates::MANNING_WEIGHT;
         let whistled = class * gates::CLASS_WEIGHT + whistling * gates::WHISTLING_WEIGHT + whistle;

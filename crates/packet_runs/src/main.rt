@@ -28,7 +28,7 @@ fn print_number(n: usize) {
 
 fn print_bytes(s: &[u8]) {
     for byte in s {
-        io::print_hex(STDOUT_FILENO, *byte as u64, 2);
+        io::print_hex(STDOUT_FILENO, u64::from(*byte), 2);
     }
 }
 

@@ -24,7 +24,7 @@ impl Ran {
         ensures { result ≡ run_with before kind length answer }
     {
         Ran {
-            number: before as u64 + 1,
+            number: u64::from(before) + 1,
             kind,
             answer: answer.answer,
             first: answer.first,

@@ -5,10 +5,11 @@ ghost use Rattle.rules.specs.Slots.{is_request, slots_for};
 const MOST_SLOTS: u64 = 6;
 
 // A request is for 1 byte to six slots' worth.
+#[tactic(auto, unfolding(crate::specs::Slots::is_request, kinds::specs::Ranges::one_to))]
 pub fn is_request(carries: u32, bytes: u32) -> bool
     ensures { result ≡ is_request carries bytes }
 {
-    1 <= bytes && bytes as u64 <= MOST_SLOTS * carries as u64
+    1 <= bytes && u64::from(bytes) <= MOST_SLOTS * u64::from(carries)
 }
 
 // The slots that a request needs: its bytes by those of a slot, rounded up.

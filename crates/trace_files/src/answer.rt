@@ -31,7 +31,7 @@ fn with_name(line: Line, mode: u32) -> Line
 fn with_mode(line: Line, mode: u32) -> Line
     ensures { result ≡ with_text line (mode_text mode) }
 {
-    with_name(line.with_number(mode as u64).with_words(b" ("), mode).with_words(b")")
+    with_name(line.with_number(u64::from(mode)).with_words(b" ("), mode).with_words(b")")
 }
 
 fn yes_line(entries: u64) -> Line
@@ -69,7 +69,7 @@ fn refused_line(number: u64, answer: u32) -> Line
         .with_words(b"entry ")
         .with_number(number)
         .with_words(b" is refused: answer ")
-        .with_number(answer as u64)
+        .with_number(u64::from(answer))
         .with_words(b": ")
 }
 

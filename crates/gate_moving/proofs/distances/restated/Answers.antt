@@ -17,4 +17,5 @@ nonzero_div-distance c = omega (arith, unit (goal.at.nonzero_div-distance c).Aft
 pub returns : goal.returns
 returns c =
     let a = c.args in
-    ap₂ (λ (m u : ℕ). m / u % 65536 * 1048576 + a.gate % 1048576) c.metres_of.ensures.0 (unit (goal.at.returns c).After-layout)
+    ap (λ (d : ℕ). d * 1048576 + a.gate % 1048576) c.from.ensures
+    ∙ ap₂ (λ (m u : ℕ). m / u % 65536 * 1048576 + a.gate % 1048576) c.metres_of.ensures.0 (unit (goal.at.returns c).After-layout)

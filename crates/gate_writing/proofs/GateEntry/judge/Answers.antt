@@ -13,18 +13,18 @@ use Rattle.gates.proofs.PutLaws.{pair_drop}
 use Rattle.gate_writing.proofs.WritingLaws.{gate-ruled}
 use Rattle.gate_writing.proofs.GateEntry.judge.Goals as goal
 
-pub returns-then-wide-gt-LAST_HIGH : goal.returns-then-wide-gt-LAST_HIGH
-returns-then-wide-gt-LAST_HIGH c =
+pub returns-then-from-gt-LAST_HIGH : goal.returns-then-from-gt-LAST_HIGH
+returns-then-from-gt-LAST_HIGH c =
     let a = c.args in
     entry-wide gate_profile (regular distance_width (omega arith)) (drop a.at a.list.now) 0 (omega arith) (omega (arith, first_byte a.list.now a.at))
 
-pub returns-then-wide-gt1 : goal.returns-then-wide-gt1
-returns-then-wide-gt1 c =
+pub returns-then-from-gt1 : goal.returns-then-from-gt1
+returns-then-from-gt1 c =
     let a = c.args in
     entry-wide gate_profile (regular distance_width (omega arith)) (drop a.at a.list.now) 5 (omega arith) (omega (arith, get_or-drop a.at a.list.now 5 0))
 
-pub returns-then-wide-gt1-2 : goal.returns-then-wide-gt1-2
-returns-then-wide-gt1-2 c =
+pub returns-then-from-gt1-2 : goal.returns-then-from-gt1-2
+returns-then-from-gt1-2 c =
     let a = c.args in
     entry-wide gate_profile (regular distance_width (omega arith)) (drop a.at a.list.now) 7 (omega arith) (omega (arith, get_or-drop a.at a.list.now 7 0))
 
@@ -45,7 +45,7 @@ returns-in-Ok c =
     let piece : (k : ℕ) → get_or g k 0 ≡ get_or a.list.now (a.at + k) 0 = λ k. get_or-drop a.at a.list.now k 0 in
     let byte : (k : ℕ) → get_or g k 0 < 256 = λ k. omega (arith, piece k, c.type_inv.list (a.at + k)) in
     let number = c.pair_at-number.ensures.0 ∙ pair_drop a.list.now a.at 2 in
-    ap untold (c.in-Ok.ensures ∙ fields_of a.list.now a.at number c.wide-suffix.ensures.0 c.wide-class.ensures.0 c.wide-whistle.ensures.0)
+    ap untold (c.in-Ok.ensures ∙ fields_of a.list.now a.at number c.from-suffix.ensures c.from-class.ensures c.from-whistle.ensures)
     ∙ gate-ruled distance_width (omega arith) g byte (omega (arith, first_byte a.list.now a.at)) (omega (arith, piece 5)) (omega (arith, piece 7))
 
 pub returns-in-Err : goal.returns-in-Err
@@ -55,5 +55,5 @@ returns-in-Err c =
     let piece : (k : ℕ) → get_or g k 0 ≡ get_or a.list.now (a.at + k) 0 = λ k. get_or-drop a.at a.list.now k 0 in
     let byte : (k : ℕ) → get_or g k 0 < 256 = λ k. omega (arith, piece k, c.type_inv.list (a.at + k)) in
     let number = c.pair_at-number.ensures.0 ∙ pair_drop a.list.now a.at 2 in
-    ap untold (c.in-Err.ensures ∙ fields_of a.list.now a.at number c.wide-suffix.ensures.0 c.wide-class.ensures.0 c.wide-whistle.ensures.0)
+    ap untold (c.in-Err.ensures ∙ fields_of a.list.now a.at number c.from-suffix.ensures c.from-class.ensures c.from-whistle.ensures)
     ∙ gate-ruled distance_width (omega arith) g byte (omega (arith, first_byte a.list.now a.at)) (omega (arith, piece 5)) (omega (arith, piece 7))
