@@ -1,5 +1,4 @@
 -- THE WORKED EXAMPLES of the paper that are proved, under one statement.
-use Rattle.std.specs.Prelude.{is_some}
 use mathlib.Core.Path.{◌≡◌, refl, ◌∙◌}
 use mathlib.Core.List.{List, map, map_congr_left}
 use Prim.Native.Nat.{ℕ}
@@ -19,7 +18,7 @@ use Rattle.kinds.specs.Found.{first}
 use Rattle.kinds.specs.Ranges.{one_to, is_position, is_none_or_location, location_from}
 use Rattle.trains.specs.Orders.{stands_under, place_under, room, set_at}
 use Rattle.trains.specs.Changes.{left_for}
-use Rattle.trains.specs.Authority.{nearer, nearest, limit_stop, order_stop, danger_stop, order_stops, end_with}
+use Rattle.trains.specs.Authority.{nearer, nearest, order_stop, danger_stop, order_stops, end_with}
 use Rattle.trains.specs.Sought.{holds_loco, is_sought}
 use Rattle.grids.specs.Classes.{among, class_of}
 use Rattle.grids.specs.Cells.{cell_of}
@@ -43,10 +42,10 @@ use Rattle.papers.proofs.Viewed.{ruled, after, end_in, viewed, by_states}
 viewed_as_printed : map (λ (l : Line). viewed l.case) table ≡ map (λ (l : Line). l.printed) table
 unfolding
     viewed ruled after end_in flags_of bit_at field total unpack first_set refuse or_else unless_refused head_refusal gate_rules gate_refusal widths_at rules_refusal entries_of bits_of
-    shape_refusal end_refusal read_refusal read_answer read_into transitions is_mode choose refuses next_step first is_some or_else_found one_to is_position is_none_or_location location_from stands_under place_under room set_at
-    left_for nearer nearest limit_stop order_stop danger_stop order_stops end_with holds_loco is_sought sought_in find_in is_taken mark_for slot_marked marked applied
+    shape_refusal end_refusal read_refusal read_answer read_into transitions is_mode choose refuses next_step first one_to is_position is_none_or_location location_from stands_under place_under room set_at
+    left_for nearer nearest order_stop danger_stop order_stops end_with holds_loco is_sought sought_in find_in is_taken mark_for slot_marked marked applied
     among class_of cell_of behind share_of_l1 share_behind when unless ruled_by granted ticket_for request_ground row_of_found end_answer changed_if step_taken mode_stepped done
-    end_asked share_ground share_taken sos_ground raised is_request slots_for is_free is_run run_from lowest_run is_some start_of in_row named_in name_ground
+    end_asked share_ground share_taken sos_ground raised is_request slots_for is_free is_run run_from lowest_run start_of in_row named_in name_ground
     ground_of done_by rule start_view
 viewed_as_printed = refl
 
