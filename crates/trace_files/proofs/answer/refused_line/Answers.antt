@@ -13,5 +13,6 @@ returns c =
       c.with_number.ensures,
       c.with_words.ensures,
       c.empty.ensures,
+      c.from.ensures,
     )
     (refused-written c.args.number c.args.answer)

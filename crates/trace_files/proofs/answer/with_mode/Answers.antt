@@ -6,4 +6,4 @@ use Rattle.trace_files.proofs.answer.with_mode.Goals as goal
 pub returns : goal.returns
 unfolding words
 returns c =
-    simp (c.with_words-2.ensures, c.with_name.ensures, c.with_words.ensures, c.with_number.ensures) (mode-written c.args.line c.args.mode)
+    simp (c.with_words-2.ensures, c.with_name.ensures, c.with_words.ensures, c.with_number.ensures, c.from.ensures) (mode-written c.args.line c.args.mode)
