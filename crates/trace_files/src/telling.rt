@@ -60,7 +60,7 @@ fn put_range(rt: &impl Print, first: &[u8]) -> Result<()> {
     print!(rt; "its flag of condition {condition} is {flag}; a flag is 0 or 1")
 }
 
-// Why an entry is refused, and what to look at.
+// Why an entry is refused, and what to look at. `Judged` is what C gets of an entry, so that its number says why.
 fn put_reason(rt: &impl Print, file: File, first: &[u8]) -> Result<()>
     requires { file.entries ≤ most_entries }
 {
@@ -77,6 +77,7 @@ fn put_answer(rt: &impl Print, file: File, first: &[u8]) -> Result<()>
     let line = answer::line(file, first);
     let bytes = line.bytes;
     rt.write_all(&bytes[..line.len.min(ROOM)])?;
+    // 0 is the number of an entry that is not refused, as C gets it
     if file.judged.answer == 0 {
         return Ok(());
     }
