@@ -1,5 +1,5 @@
 // What is still to be written of the listing: the first bytes of a buffer that is written when it is full.
-ghost use Rattle.std.specs.Prelude.{true, ◌≡◌, ◌+◌, ◌≤◌, ◌<◌, ◌^◌, length};
+ghost use Rattle.std.specs.Prelude.{true, ◌≡◌, ◌+◌, ◌-◌, ◌≤◌, ◌<◌, ◌^◌, length, take};
 ghost use Rattle.std.specs.Io.KnownBytes.{Appends};
 ghost use Rattle.lines.specs.Line.{room};
 ghost use Rattle.bench.specs.Pending.{pending_bytes, nothing_pending, with_more, HasRoom};
@@ -50,7 +50,8 @@ impl Pending {
     // Where the buffer has no room for a line behind what is pending, that is written first.
     pub(crate) fn with_room<W: Write>(self, out: &mut W, buffer: &[u8]) -> Pending
         requires { room ≤ length buffer.now }
-        ensures { HasRoom buffer.now self result }
+        ensures value { HasRoom buffer.now self result }
+        ensures bytes { result.writable ≡ true → Appends (W.contents out.old) (W.contents out.new) (take (self.filled - result.filled) buffer.now) }
     {
         if buffer.len() - lines::ROOM < self.filled {
             return self.written(out, buffer);

@@ -7,12 +7,18 @@ use native.Mathlib.Decide.{dec_lt}
 use native.Mathlib.Omega.{arith}
 use lib.Dec.{eqb}
 use lib.ListN.{length, take, drop, length-append, length-drop, drop_of_length-le, take-append-drop}
-use lib.Seq.{take_all, take-take, length-take-le, take-nil, drop-drop}
+use lib.Seq.{take_all, take-take, length-take-le, take-nil, drop-drop, take-append-add, drop-length}
+use Rattle.std.proofs.KnownBytes.{Consumes-nil}
+use borrow.Rule.Slice.PartMut.{put_mid}
 use borrow.Author.Tests.{ltb-false, eqb-true, eqb-false}
+use Rattle.std.proofs.lemmas.List.{drop-append-le, take-append-le}
 use Rattle.std.proofs.lemmas.List.Edits.{take-paste}
 use Rattle.std.specs.List.{copy_within}
 use Rattle.holding.specs.declared.Held.{Held}
-use Rattle.holding.specs.Held.{stretch, held_bytes, behind_by, is_end, IsReady, ReadOn}
+use Rattle.std.specs.Prelude.{Option, Result, Ok, Err, IfOk, OnErr}
+use Rattle.std.specs.Io.{ReadsAtMost}
+use Rattle.std.specs.Io.KnownBytes.{Consumes, ReadConsumes}
+use Rattle.holding.specs.Held.{stretch, held_bytes, last_held, behind_by, is_end, given_by, IsReady, ReadOn}
 
 -- ---- a stretch whose offsets are kept within the buffer
 
@@ -103,6 +109,12 @@ module _ (longest : ℕ) (b t u : List ℕ) (h r : Held) (a e : ℕ) (he : e ≡
   unfolding stretch
   first = on.same ∙ ap (take (e - a)) moved ∙ moved-to-front b a e (omega arith) ∙ stretch_within b h.at h.end a e he ha
 
+  -- what is held behind what was held before is what was read
+  pub read-taken : drop (length (held_bytes b h)) (held_bytes u r) ≡ drop (e - a) (take r.end u)
+  read-taken =
+      let size : length (held_bytes b h) ≡ e - a = ap length (sym (stretch_within b h.at h.end a e he ha)) ∙ stretch-length b a e (omega arith) in
+      rw (size, held_all)
+
   pub read-ready : IsReady longest b h u r
   read-ready =
       let size : length (take r.end u) ≡ r.end = length-take-le r.end u on.inside in record {
@@ -113,6 +125,50 @@ module _ (longest : ℕ) (b t u : List ℕ) (h r : Held) (a e : ℕ) (he : e ≡
         enough = λ n. rw held_all (omega (arith, size, ltb-false r.end longest (sym on.ended ∙ n)));
         failed = λ f n. on.failed n;
       }
+
+-- a buffer keeps its length where a read puts bytes behind the first e, as many as stood there
+pub length-put_mid : (e : ℕ) (xs ys : List ℕ) → e ≤ length xs → length ys ≡ length (take (length xs - e) (drop e xs))
+    → (length ys ≡ length xs - e) × (length (put_mid e (length xs - e) xs ys) ≡ length xs)
+length-put_mid e xs ys inside size =
+    let k = length xs - e in
+    let behind : length (drop e xs) ≡ k = length-drop e xs in
+    let most : length ys ≡ k = size ∙ length-take-le k (drop e xs) (omega (arith, behind)) in (
+      most,
+      omega (
+        arith,
+        length-append (take e xs) (ys ++ drop k (drop e xs)),
+        length-take-le e xs inside,
+        most,
+        length-append ys (drop k (drop e xs)),
+        length-drop k (drop e xs),
+        behind,
+      ),
+    )
+
+-- what a read gave behind the first e bytes of a buffer stands behind what was read before
+pub given-behind : (kept e n k : ℕ) (xs ys : List ℕ) → kept ≤ e → e ≤ length xs → n ≤ length ys
+    → drop kept (take (e + n) (put_mid e k xs ys)) ≡ drop kept (take e xs) ++ take n ys
+given-behind kept e n k xs ys low inside most =
+    let front : length (take e xs) ≡ e = length-take-le e xs inside in
+    let rest : List ℕ = ys ++ drop k (drop e xs) in
+    ap (λ (m : ℕ). drop kept (take (m + n) (take e xs ++ rest))) (sym front)
+    ∙ ap (drop kept) (take-append-add (take e xs) rest n)
+    ∙ drop-append-le kept (take e xs) (take n rest) (rw front low)
+    ∙ ap (λ (l : List ℕ). drop kept (take e xs) ++ l) (take-append-le n ys (drop k (drop e xs)) most)
+
+-- so many bytes were given by a read that gave so many, and no other
+pub given_count : {E : Type 0} (r : Result ℕ E) (count end : ℕ) (old new : Option (List ℕ)) (buf : List ℕ)
+    → IfOk r (λ n. ◌≡◌ {A = Result ℕ Held} (Ok count) (given_by n end)) → OnErr r (◌≡◌ {A = Result ℕ Held} (Ok count) (Err (last_held end true)))
+    → ReadsAtMost r buf → ReadConsumes old new r buf → (count ≤ length buf) × Consumes old new (take count buf)
+given_count (Ok zero) count end old new buf given failed most read = let z : ◌≡◌ {A = ℕ} 0 1 = cc (given) in absurd (omega arith)
+given_count (Ok (suc n)) count end old new buf given failed most read =
+    let e : count ≡ suc n = cc (given) in
+    (omega (arith, most, e), rw e read.0)
+given_count (Err x) count end old new buf given failed most read = let z : ◌≡◌ {A = ℕ} 0 1 = cc (failed) in absurd (omega arith)
+
+-- where nothing is read, nothing is taken
+pub stays-taken : (known : Option (List ℕ)) (b : List ℕ) (h : Held) → Consumes known known (drop (length (held_bytes b h)) (held_bytes b h))
+stays-taken known b h = rw (drop-length (held_bytes b h)) (Consumes-nil known)
 
 -- what is held stays where nothing is read
 pub stays-ready : (longest : ℕ) (b : List ℕ) (h : Held) → (h.ended ≡ false → longest ≤ length (held_bytes b h)) → IsReady longest b h b h

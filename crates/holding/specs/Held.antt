@@ -1,6 +1,7 @@
 -- What is held of an input: a stretch of a buffer. `longest` is the bytes of the longest item.
 use mathlib.Core.{Bool.Bool, Bool.true, Bool.false, Bool.◌||◌, List.List, List.[], List.◌++◌, Path.◌≡◌}
-use Rattle.std.specs.Prelude.{ℕ, ◌+◌, ◌-◌, ◌≤◌, min}
+use Rattle.std.specs.Prelude.{ℕ, zero, suc, ◌+◌, ◌-◌, ◌≤◌, min, Ok, Err}
+use Rattle.std.specs.declared.result.Result.{Result}
 use lib.{Dec.eqb, Dec.ltb, ListN.length, ListN.take, ListN.drop}
 use Rattle.holding.specs.declared.Held.{Held}
 
@@ -19,6 +20,15 @@ held_at size h = min h.at (min h.end size)
 -- nothing is held, and more may come
 abbrev pub nothing_held : Held
 nothing_held = record { at = 0; end = 0; ended = false; failed = false }
+
+-- the first bytes up to `end` are held, and nothing more comes, whether or not that is since a read failed
+abbrev pub last_held : ℕ → Bool → Held
+last_held end failed = record { at = 0; end = end; ended = true; failed = failed }
+
+-- what a read that gave so many bytes behind the first `end` is taken for: none is the end of the input, and no failure
+abbrev pub given_by : ℕ → ℕ → Result ℕ Held
+given_by zero end = Err (last_held end false)
+given_by (suc n) end = Ok (suc n)
 
 -- of the same bytes, the first `used` are not held any more
 abbrev pub behind_by : ℕ → Held → Held

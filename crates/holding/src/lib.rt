@@ -2,10 +2,11 @@
 // `longest` is the bytes of the longest item.
 #![tactic(auto)]
 
-ghost use Rattle.std.specs.Prelude.{◌≡◌, ◌+◌, ◌≤◌, length, take, drop, min, true, false};
-ghost use Rattle.std.specs.Io.KnownBytes.{IsAtEnd};
-ghost use Rattle.holding.specs.Held.{held_bytes, held_at, nothing_held, behind_by, is_end, ReadOn, IsReady};
+ghost use Rattle.std.specs.Prelude.{◌≡◌, ◌+◌, ◌≤◌, length, take, drop, min, true, false, Err, IfOk, OnErr};
+ghost use Rattle.std.specs.Io.KnownBytes.{Consumes, IsAtEnd};
+ghost use Rattle.holding.specs.Held.{held_bytes, held_at, nothing_held, last_held, behind_by, is_end, given_by, ReadOn, IsReady};
 
+use std::io;
 use std::io::Read;
 
 // The bytes of the buffer from `at` up to `end`. The input has ended once a read has given nothing, and failed where that read did.
@@ -45,14 +46,25 @@ impl Held {
 
     // The first bytes up to `end`, behind which nothing more comes.
     fn last(end: usize, failed: bool) -> Held
-        ensures bytes { (result.at ≡ 0) × (result.end ≡ end) }
-        ensures flags { (result.ended ≡ true) × (result.failed ≡ failed) }
+        ensures { result ≡ last_held end failed }
     {
         Held {
             at: 0,
             end,
             ended: true,
             failed,
+        }
+    }
+
+    // The bytes that a read behind the first `end` gave. Where it gave none, what is held is the last; it failed where the read did.
+    fn given(read: io::Result<usize>, end: usize) -> Result<usize, Held>
+        ensures count { IfOk read (λ n. result ≡ given_by n end) }
+        ensures failure { OnErr read (result ≡ Err (last_held end true)) }
+    {
+        match read {
+            Ok(0) => Err(Held::last(end, false)),
+            Ok(count) => Ok(count),
+            Err(_) => Err(Held::last(end, true)),
         }
     }
 
@@ -79,16 +91,16 @@ pub fn part(buffer: &[u8], held: Held) -> &[u8]
 fn read_on<R: Read>(reader: &mut R, buffer: &mut [u8], kept: usize, longest: usize) -> Held
     requires { kept ≤ length buffer.old }
     ensures value { ReadOn longest kept buffer.old buffer.new result }
+    ensures taken { Consumes (R.remaining reader.old) (R.remaining reader.new) (drop kept (take result.end buffer.new)) }
     ensures whole { longest ≤ length buffer.old → result.ended ≡ true → result.failed ≡ false
         → IsAtEnd (R.remaining reader.new) }
 {
     let mut end = kept;
     // no `for`: how many bytes a read gives is known only once it has given them
     while end < longest {
-        match reader.read(&mut buffer[end..]) {
-            Ok(0) => return Held::last(end, false),
+        match Held::given(reader.read(&mut buffer[end..]), end) {
             Ok(count) => end += count,
-            Err(_) => return Held::last(end, true),
+            Err(last) => return last,
         }
     }
     Held {
@@ -101,6 +113,8 @@ fn read_on<R: Read>(reader: &mut R, buffer: &mut [u8], kept: usize, longest: usi
 // most once for each read.
 pub fn ready<R: Read>(reader: &mut R, buffer: &mut [u8], held: Held, longest: usize) -> Held
     ensures value { IsReady longest buffer.old held buffer.new result }
+    ensures taken { Consumes (R.remaining reader.old) (R.remaining reader.new)
+        (drop (length (held_bytes buffer.old held)) (held_bytes buffer.new result)) }
     ensures whole { longest ≤ length buffer.old → held.ended ≡ false → result.ended ≡ true
         → result.failed ≡ false → IsAtEnd (R.remaining reader.new) }
 {

@@ -1,7 +1,6 @@
 // The search of the slot book for a run of free slots.
-ghost use Rattle.std.specs.Prelude.{◌≡◌, ◌≤◌};
-ghost use Rattle.kinds.specs.Kinds.{last_slot};
-ghost use Rattle.rules.specs.Slots.{slot_of, is_free, is_run, lowest_run};
+ghost use Rattle.std.specs.Prelude.{◌≡◌};
+ghost use Rattle.rules.specs.Slots.{slot_of, is_free, lowest_run};
 ghost use Rattle.store.specs.Stands.{book_of};
 
 use kinds::Slot;
@@ -22,28 +21,23 @@ fn is_free(s: &[u8], slot: usize) -> bool
     !view::is_taken(s, Slot(slot as u32))
 }
 
-// Are the n slots side by side from one on free?
-fn is_run(s: &[u8], start: usize, n: u32) -> bool
-    requires { start ≤ last_slot }
-    ensures { result ≡ is_run (book_of s.now) start n }
-{
-    let end = start + n as usize;
-    for slot in start..end {
-        if !is_free(s, slot) {
-            return false;
-        }
-    }
-    true
-}
-
-// The lowest start at which n slots side by side are free.
+// The lowest start at which n slots side by side are free. The outer loop goes over the starts, the inner one over the run, which is left by the label
+// at the first slot that is taken: a `for` has no `break` that yields the start.
 pub(crate) fn lowest_run(s: &[u8], n: u32) -> Option<Slot>
     ensures { result ≡ lowest_run (book_of s.now) n }
 {
-    for start in 1..LAST_SLOT + 1 {
-        if is_run(s, start, n) {
-            return Some(Slot(start as u32));
+    let mut start: usize = 1;
+    'starts: loop {
+        if start > LAST_SLOT {
+            break None;
         }
+        let end = start + n as usize;
+        for slot in start..end {
+            if !is_free(s, slot) {
+                start += 1;
+                continue 'starts;
+            }
+        }
+        break Some(Slot(start as u32));
     }
-    None
 }

@@ -29,8 +29,8 @@ fn eight_at(s: &[u8], i: usize) -> [u8; 8]
     bytes
 }
 
-// The 8 bytes from byte i on as a number, for a place near the end: a number of fewer bytes is what stands above some of its digits. It hands out
-// a number and no bytes, so that where all are there none are put on the stack.
+// The 8 bytes from byte i on as a number, for a place near the end. It hands out a number and no bytes, so that where all are there none are put
+// on the stack.
 #[cold]
 #[inline(never)]
 pub fn end_at(s: &[u8], i: usize) -> u64
@@ -50,8 +50,18 @@ pub fn half_at(s: &[u8], i: usize) -> u32
 {
     match whole_at(s, i) {
         Some(bytes) => u32::from(u16::from_be_bytes(*bytes)),
-        None => (end_at(s, i) >> 48) as u32,
+        None => half_end(s, i),
     }
+}
+
+// The same, for a place near the end: the second byte is not there. It stays out of the callers, so that a loop that reads numbers is a short one.
+#[cold]
+#[inline(never)]
+fn half_end(s: &[u8], i: usize) -> u32
+    requires { length s.now < i + 2 }
+    ensures { result ≡ number_at 2 s.now i }
+{
+    byte_at(s, i) * 256
 }
 
 pub fn word_at(s: &[u8], i: usize) -> u32
@@ -59,8 +69,21 @@ pub fn word_at(s: &[u8], i: usize) -> u32
 {
     match whole_at(s, i) {
         Some(bytes) => u32::from_be_bytes(*bytes),
-        None => (end_at(s, i) >> 32) as u32,
+        None => word_end(s, i),
     }
+}
+
+// The same, for a place near the end: the fourth byte is not there. It stays out of the callers too.
+#[cold]
+#[inline(never)]
+fn word_end(s: &[u8], i: usize) -> u32
+    requires { length s.now < i + 4 }
+    ensures { result ≡ number_at 4 s.now i }
+{
+    if s.len() <= i {
+        return 0;
+    }
+    half_at(s, i) * 65536 + byte_at(s, i + 2) * 256
 }
 
 // Puts these bytes from byte i on.

@@ -38,7 +38,7 @@ fn room(held: [Order; 4], other: Ticket) -> Option<usize>
     if other == Ticket(0) {
         return None;
     }
-    place_under(held, other).or(place_under(held, Ticket(0)))
+    place_under(held, other).or_else(|| place_under(held, Ticket(0)))
 }
 
 // The orders with one set at a place that was found. Where none was, they come back as they were.

@@ -179,7 +179,7 @@ module _ (m t : ℕ) where
   leaves-other : t < transition_count → ((transition_at t).leaves ≡ m → ⊥) → leaves_at m t ≡ false
   leaves-other h n = from_at h ∙ ne_eqb (transition_at t).leaves m n
 
-  from-before : t < first_of m → leaves_at m t ≡ false
+  pub from-before : t < first_of m → leaves_at m t ≡ false
   from-before h =
       let k : t < transition_count = omega (arith, starts_in m) in
       leaves-other k (λ e. omega (arith, ap first_of e, (stand t k).0))
@@ -200,7 +200,7 @@ module _ (m t : ℕ) where
       (⊎_elim (λ low. absurd (omega (arith, starts_rise (l + 1) m (omega arith), s.1)))
       (λ high. ⊎_elim (λ up. absurd (omega (arith, starts_rise (m + 1) l (omega arith), s.0))) (λ down. omega arith) (lt_or_le m l)) (lt_or_le l m))
 
-  from_start : first_of m ≤ t → ltb t (first_of (m + 1)) ≡ leaves_at m t
+  pub from_start : first_of m ≤ t → ltb t (first_of (m + 1)) ≡ leaves_at m t
   from_start h =
       ⊎_elim (λ k. lt-ltb t (first_of (m + 1)) k ∙ sym (among h k)) (λ k. le-ltb t (first_of (m + 1)) k ∙ sym (behind k))
       (lt_or_le t (first_of (m + 1)))
@@ -209,7 +209,7 @@ module _ (m t : ℕ) where
   between = ⊎_elim (λ h. rw (lt-leb (first_of m) t h) (sym (from-before h))) (λ h. rw (le-leb (first_of m) t h) (from_start h)) (lt_or_le t (first_of m))
 
   -- there is no mode above the last, and none with the number 0
-  from-none : IS < m → leaves_at m t ≡ false
+  pub from-none : IS < m → leaves_at m t ≡ false
   from-none h = ⊎_elim (λ k. from-before (omega (arith, start-behind m h))) (λ k. behind (omega (arith, starts_in (m + 1)))) (lt_or_le t transition_count)
 
   pub no_mode_none : is_mode m ≡ false → leaves_at m t ≡ false

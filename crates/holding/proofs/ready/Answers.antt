@@ -2,7 +2,7 @@
 use mathlib.Core.Path.{◌≡◌}
 use Prim.Native.Nat.{ℕ}
 use native.Mathlib.Omega.{arith}
-use Rattle.holding.proofs.HeldLaws.{within_enough, read-ready, stays-ready}
+use Rattle.holding.proofs.HeldLaws.{within_enough, read-ready, read-taken, stays-ready, stays-taken}
 use Rattle.holding.proofs.ready.Goals as goal
 use Rattle.holding.proofs.ready.Goals.{then-held-via-then-held, then-held-via-else-held+then-longest-kept}
 
@@ -22,3 +22,13 @@ returns-clause-value g c =
     let a = c.args in
     let e = c.within-at.ensures in
     read-ready a.longest a.buffer.now _ _ a.held c.read_on.result _ _ e.end e.at c.if-held.false c.copy_within.ensures.after c.read_on.ensures.value
+
+pub returns-then-held-clause-taken : goal.returns-then-held-clause-taken
+returns-then-held-clause-taken g c = stays-taken _ c.args.buffer.now c.args.held
+
+pub returns-clause-taken : goal.returns-clause-taken
+returns-clause-taken g c =
+    let a = c.args in
+    let e = c.within-at.ensures in
+    rw (read-taken a.longest a.buffer.now _ _ a.held c.read_on.result _ _ e.end e.at c.if-held.false c.copy_within.ensures.after c.read_on.ensures.value)
+    c.read_on.ensures.taken

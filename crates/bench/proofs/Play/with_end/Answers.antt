@@ -7,4 +7,4 @@ pub returns : goal.returns
 returns g c =
     let a = c.args in
     let put = c.end.ensures in
-    end-put a.self a.output.now _ _ _ _ (not-false _ c.if-not-self.false) c.with_room-pending.ensures (put.value, put.output_after) c.with.ensures
+    end-put a.self a.output.now _ _ _ _ (not-false _ c.if-not-self.false) c.with_room-pending.ensures.value (put.value, put.output_after) c.with.ensures
