@@ -3,7 +3,8 @@
 
 The answer numbers of ANSWERS.md, the bits of a gate's fields in both forms, and the way from a place to a turnout are those of the C header; the
 examples of README.md, RECORDING.md, GATES.md and TRACES.md are what the samples, the tools and the programs give; README.md has every crate, and the
-samples' own pages every sample; every link leads to a file. The exit status is 1 where something is not so.
+samples' own pages every sample; no public function asks anything of its caller, as PROMISES.md says; every link leads to a file. The exit status is 1
+where something is not so.
 """
 
 import pathlib
@@ -129,6 +130,32 @@ def samples(folder, suffixes):
             yield f"sample {name} lacks a file"
 
 
+def public_files(path, folder):
+    """A library's root file and those of the modules that it gives out, by `pub mod` or `pub use`. A module's own modules lie in a folder of its name."""
+    yield path
+    for name in re.findall(r"^pub (?:mod|use) (\w+)(?:;|::)", text(path), re.MULTILINE):
+        inner = folder / f"{name}.rt"
+        if inner.is_file():
+            yield from public_files(inner, folder / name)
+
+
+def public_functions(code):
+    """The name and the signature, clauses and all, of each public function, and of each one of a public trait."""
+    traits = [match.span() for match in re.finditer(r"^pub trait .*?^}", code, re.MULTILINE | re.DOTALL)]
+    for match in re.finditer(r'^( *)(pub )?(?:const )?(?:extern "C" )?fn (\w+).*?(?:;| \{|\n\1\{)$', code, re.MULTILINE | re.DOTALL):
+        if match[2] or any(start < match.start() < end for start, end in traits):
+            yield match[3], match[0]
+
+
+def asked():
+    """No public function of a library has a `requires`: PROMISES.md says so of demand 1."""
+    for library in sorted((ROOT / "crates").glob("*/src/lib.rt")):
+        for path in public_files(library, library.parent):
+            for name, signature in public_functions(text(path)):
+                if re.search(r"\brequires\b", signature):
+                    yield f"{path.relative_to(ROOT)}: `{name}` is public and has a `requires`; PROMISES.md says that no public function has one"
+
+
 def links():
     """Every link to a file leads to one."""
     for path in [ROOT / "README.md", *sorted(SAMPLES.rglob("*.md")), *sorted(DOCS.rglob("*.md")), *sorted((ROOT / "tests").glob("*/*.md"))]:
@@ -138,7 +165,7 @@ def links():
 
 
 def main():
-    wrong = [problem for part in (answers, places, turnouts, first_sample, kinds, commands, lists, links) for problem in part()]
+    wrong = [problem for part in (answers, places, turnouts, first_sample, kinds, commands, lists, asked, links) for problem in part()]
     print(*wrong, f"documents: {len(wrong)} differences", sep="\n")
     return 1 if wrong else 0
 

@@ -23,6 +23,17 @@ impl Write for Output {
     }
 }
 
+// A number behind a line's first word, and the space between them. As `word {n}` the word and the space would be handed over in one piece. An output with
+// little room takes a piece whole or not at all, so small ones get more of a line out.
+#[derive(Drop)]
+struct Number(u32);
+
+impl Display for Number {
+    fn fmt<W: Write>(&self, f: &mut Formatter<W>) -> fmt::Result {
+        write!(f, " {}", self.0)
+    }
+}
+
 // 91 flags, of which these conditions alone are set; a number that is no condition sets none.
 fn flags_with(set: &[u32]) -> [u8; FLAGS] {
     let mut flags = [0; FLAGS];
@@ -63,12 +74,17 @@ fn steps(out: &mut Output, mode: u32) {
     for n in 0..92 {
         step(
             out,
-            format_args!("step {mode} {n}"),
+            format_args!("step{} {n}", Number(mode)),
             mode,
             &flags_with(&[n]),
         );
     }
-    step(out, format_args!("step {mode} all"), mode, &[1; FLAGS]);
+    step(
+        out,
+        format_args!("step{} all", Number(mode)),
+        mode,
+        &[1; FLAGS],
+    );
 }
 
 // The paper's two examples of FS, then a tie of each mode that has one, and two conditions of one transition, which are no tie.
@@ -86,7 +102,7 @@ fn pairs(out: &mut Output) {
     ] {
         step(
             out,
-            format_args!("two {mode} {a} {b}"),
+            format_args!("two{} {a} {b}", Number(mode)),
             mode,
             &flags_with(&[a, b]),
         );
@@ -98,7 +114,7 @@ fn triples(out: &mut Output, asked: &[(u32, u32, u32, u32)]) {
     for &(mode, a, b, c) in asked {
         step(
             out,
-            format_args!("three {mode} {a} {b} {c}"),
+            format_args!("three{} {a} {b} {c}", Number(mode)),
             mode,
             &flags_with(&[a, b, c]),
         );
@@ -135,10 +151,15 @@ const TIES_AMONG_OTHERS: [(u32, u32, u32, u32); 11] = [
     (SB, 77, 60, 62),
 ];
 
-// Numbers that are no mode, then flags that are too few, too many or above 1.
+// Numbers that are no mode, then flags that are too few, too many or above 1. What is asked is one piece each, its number too.
 fn refusals(out: &mut Output) {
-    for mode in [0, 14, 257, 4294967295] {
-        step(out, format_args!("mode {mode}"), mode, &flags_with(&[2]));
+    for (asked, mode) in [
+        ("mode 0", 0),
+        ("mode 14", 14),
+        ("mode 257", 257),
+        ("mode 4294967295", 4294967295),
+    ] {
+        step(out, asked, mode, &flags_with(&[2]));
     }
     step(out, "flags 90", SB, &[1; 90]);
     step(out, "flags 92", SB, &[1; 92]);
@@ -195,8 +216,13 @@ fn ages(out: &mut Output, asked: &[(u32, u32)]) {
         let a = clock::frame_age(station, onboard);
         let _ = writeln!(
             out,
-            "age {station} {onboard} {} {} {} {} {}",
-            a.answer, a.age, a.condition24, a.condition26, a.condition27
+            "age{} {onboard} {} {} {} {} {}",
+            Number(station),
+            a.answer,
+            a.age,
+            a.condition24,
+            a.condition26,
+            a.condition27
         );
     }
 }

@@ -9,20 +9,22 @@ use native.Mathlib.Omega.{arith}
 use native.Mathlib.Numerals.{add-one, one-add}
 use borrow.Author.Tests.{lt-leb, le-leb, ltb-false}
 use lib.Dec.{leb}
-use lib.ListN.{length, get_or, drop}
+use lib.ListN.{length, get_or, take, drop, take-append-drop}
 use lib.Seq.{drop_at, drop-drop, get_or-drop}
+use Rattle.std.proofs.lemmas.List.{length-take-le, length-drop, get_or-take}
 use Rattle.numbers.specs.Fields.{put}
 use Rattle.numbers.specs.Pieces.{total, pack}
 use Rattle.numbers.specs.Numbers.{put_number}
 use Rattle.numbers.proofs.FieldLaws.{Bytes, bytes-put, lt_or_le}
 use Rattle.numbers.proofs.PieceLaws.{total-append, pack-append, pack_extra}
-use Rattle.numbers.proofs.JoinedLaws.{put_cleared, joined, pack_joined}
+use Rattle.numbers.proofs.JoinedLaws.{put_cleared, joined, pack_joined, pack-first}
 use Rattle.framing.specs.Refusals.{none, too_wide, refuse, or_else, unless_refused, untold}
 use Rattle.framing.specs.Refusals.{Refusal}
 use Rattle.framing.proofs.RefusalLaws.{same_number, or_else-first, or_else_then, or_else_go, along, tested, ends, refuse-none, unless-none, unless-some}
 use Rattle.profiles.specs.Profiles.{Profile, first_at, padding_for, widths_for, widths_of}
 use Rattle.profiles.specs.Writing.{entries_in, bits_for, size_for, packet_widths, packet_values, written, widths_refusal, entry_refusal, list_refusal, write_refusal, written_with, not_written, write_answer, write_into}
-use Rattle.profiles.proofs.ProfileLaws.{Regular, length-of}
+use Rattle.profiles.specs.Numbered.{IsNumberOf}
+use Rattle.profiles.proofs.ProfileLaws.{Regular, some, length-of}
 
 -- a whole sub-packet takes whole bytes
 pub total_packet : (f : Profile) (list : List ℕ) (n : ℕ) → total (packet_widths f list n) ≡ 8 * size_for f list n
@@ -91,6 +93,51 @@ unfolding widths_refusal or_else refuse unless_refused
 widths_fit w ws list k l e =
     let d : drop 1 (drop k list) ≡ drop (suc k) list = drop-drop 1 k list ∙ ap (λ (n : ℕ). drop n list) (add-one k) in
     rw (first_byte list k, d) (simp (lt-leb (2 ^ w) (get_or list k 0) l) e)
+
+-- ---- an entry by its own bytes
+
+-- widths are judged by as many bytes as there are widths
+widths_own : (ws list more : List ℕ) → length ws ≤ length list → widths_refusal ws (list ++ more) ≡ widths_refusal ws list
+unfolding widths_refusal
+widths_own [] list more h = refl
+widths_own (w ∷ ws) [] more h = absurd (omega arith)
+widths_own (w ∷ ws) (v ∷ list) more h = ap (or_else (refuse (leb (2 ^ w) v) too_wide)) (widths_own ws list more (omega arith))
+
+-- what stands behind entry i in a list counts for nothing: neither where the entry is judged, nor where it is put
+module _ (f : Profile) (reg : Regular f) (list : List ℕ) (n i : ℕ) (is : n ≡ f.pieces) (there : n * (i + 1) ≤ length list) (entry : List ℕ) (own : entry ≡ take n (drop (n * i) list)) where
+  abbrev left : List ℕ
+  left = drop (n * i) list
+
+  long : length entry ≡ f.pieces
+  long = ap length own ∙ length-take-le n left (rw length-drop (omega arith)) ∙ is
+
+  all : entry ++ drop n left ≡ left
+  all = ap (λ (l : List ℕ). l ++ drop n left) own ∙ take-append-drop n left
+
+  pub first_own : get_or entry 0 0 ≡ get_or (drop (n * i) list) 0 0
+  first_own = ap (λ (l : List ℕ). get_or l 0 0) own ∙ get_or-take n left 0 0 (omega (arith, some f reg))
+
+  pub entry_own : entry_refusal f entry ≡ entry_refusal f (drop (n * i) list)
+  unfolding entry_refusal
+  entry_own =
+      ap₂ (λ (a b : Refusal). or_else a (untold b))
+      (sym (widths_own (widths_for f (get_or entry 0 0)) entry (drop n left) (omega (arith, reg.long (get_or entry 0 0), long))))
+      (sym (reg.local entry (drop n left) long))
+      ∙ (λ j. or_else (widths_refusal (widths_for f (first_own j)) (all j)) (untold (f.rules (all j))))
+
+  pub put_own : (o : List ℕ) (p : ℕ) → pack o p (widths_for f (get_or entry 0 0)) entry ≡ pack o p (widths_for f (get_or entry 0 0)) (drop (n * i) list)
+  put_own o p =
+      sym (pack_extra o p (widths_for f (get_or entry 0 0)) entry (drop n left) (reg.long (get_or entry 0 0) ∙ sym long))
+      ∙ ap (pack o p (widths_for f (get_or entry 0 0))) all
+
+-- an entry as one number, its pieces one behind the other. The first goes in as it is: the field is as wide as the entry, and so has room for no more of
+-- its digits than the piece
+pub entry_number : (f : Profile) → Regular f → (entry : List ℕ) (x : ℕ) → f.pieces ≤ length entry
+    → x ≡ get_or entry 0 0 * 2 ^ total (f.others (get_or entry 0 0)) + joined (f.others (get_or entry 0 0)) (drop 1 entry) → IsNumberOf f entry x
+unfolding total
+entry_number f reg entry x long e o p ho =
+    ap (put o p (total (widths_for f (get_or entry 0 0)))) e
+    ∙ sym (pack-first o p f.first (f.others (get_or entry 0 0)) entry ho (omega (arith, reg.long (get_or entry 0 0))))
 
 -- ---- entry by entry
 

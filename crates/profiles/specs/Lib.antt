@@ -5,3 +5,4 @@ pub mod Writing
 pub mod Promised
 pub mod Regular
 pub mod Begun
+pub mod Numbered

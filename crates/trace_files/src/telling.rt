@@ -1,5 +1,6 @@
 // What a vendor and the calling script are told of a trace that was checked: its answer on standard output, what stopped the check on standard error,
-// and the outcome on a descriptor of its own.
+// and the outcome on a descriptor of its own. Why an entry is refused is put in pieces, each text and each number by a write of its own: an output with too
+// little room for all of it, such as a pipe that does not block and is nearly full, then gets as many as fit.
 ghost use Rattle.std.specs.Prelude.{◌≡◌, ◌≤◌};
 ghost use Rattle.trace_files.specs.Turns.{most_entries};
 ghost use Rattle.trace_files.specs.Reasons.{bad_flag};
@@ -20,13 +21,13 @@ const OUTCOME_FILENO: i32 = 3;
 fn put_form(rt: &impl Print, byte: u64, first: &[u8]) -> Result<()> {
     if first.len() < entry::BYTES {
         let length = first.len();
-        return print!(rt;
-            "the trace ends within it, after {length} of its 95 bytes; give the whole trace, and nothing behind it"
-        );
+        print!(rt; "the trace ends within it, after ")?;
+        print!(rt; "{length}")?;
+        return print!(rt; " of its 95 bytes; give the whole trace, and nothing behind it");
     }
-    print!(rt;
-        "the mark 4B 56 does not stand at byte {byte}, where it begins; see whether each entry before it has 95 bytes"
-    )
+    print!(rt; "the mark 4B 56 does not stand at byte ")?;
+    print!(rt; "{byte}")?;
+    print!(rt; ", where it begins; see whether each entry before it has 95 bytes")
 }
 
 // Where the first flag stands that is neither 0 nor 1; where there is none, behind the flags.
@@ -42,7 +43,9 @@ fn bad_flag(first: &[u8]) -> usize
 }
 
 fn put_no_mode(rt: &impl Print, which: &str, mode: u32) -> Result<()> {
-    print!(rt; "its mode {which} is {mode}, which is no mode; modes are 1 to 13")
+    print!(rt; "its mode {which} is ")?;
+    print!(rt; "{mode}")?;
+    print!(rt; ", which is no mode; modes are 1 to 13")
 }
 
 // What is out of range in an entry: the first that is.
@@ -57,7 +60,11 @@ fn put_range(rt: &impl Print, first: &[u8]) -> Result<()> {
     }
     let condition = at - entry::FLAGS + 1;
     let flag = numbers::byte_at(first, at);
-    print!(rt; "its flag of condition {condition} is {flag}; a flag is 0 or 1")
+    print!(rt; "its flag of condition ")?;
+    print!(rt; "{condition}")?;
+    print!(rt; " is ")?;
+    print!(rt; "{flag}")?;
+    print!(rt; "; a flag is 0 or 1")
 }
 
 // Why an entry is refused, and what to look at. `Judged` is what C gets of an entry, so that its number says why.

@@ -34,7 +34,18 @@ fn line(out: &mut Output, shown: impl Display + Drop) {
     let _ = writeln!(out, "{shown}");
 }
 
-// A number, or a word where there is none.
+// A number behind a line's first word, and the space between them. As `word {n}` the word and the space would be handed over in one piece. An output with
+// little room takes a piece whole or not at all, so small ones get more of a line out.
+#[derive(Drop)]
+struct Number(u32);
+
+impl Display for Number {
+    fn fmt<W: Write>(&self, f: &mut Formatter<W>) -> fmt::Result {
+        write!(f, " {}", self.0)
+    }
+}
+
+// A number, or a word where there is none, and the space before it. A word has its space in its own piece.
 #[derive(Drop)]
 struct NumberOr<N> {
     number: Option<N>,
@@ -45,7 +56,7 @@ impl<N: Display> Display for NumberOr<N> {
     fn fmt<W: Write>(&self, f: &mut Formatter<W>) -> fmt::Result {
         match &self.number {
             None => f.write_str(self.word),
-            Some(n) => write!(f, "{n}"),
+            Some(n) => write!(f, " {n}"),
         }
     }
 }
@@ -53,21 +64,21 @@ impl<N: Display> Display for NumberOr<N> {
 fn limit(limit: Option<u32>) -> NumberOr<u32> {
     NumberOr {
         number: limit,
-        word: "bare",
+        word: " bare",
     }
 }
 
 fn location(location: Option<u32>) -> NumberOr<u32> {
     NumberOr {
         number: location,
-        word: "none",
+        word: " none",
     }
 }
 
 fn found(row: Option<usize>) -> NumberOr<usize> {
     NumberOr {
         number: row,
-        word: "nothing",
+        word: " nothing",
     }
 }
 
@@ -78,8 +89,8 @@ struct Shown(Share);
 impl Display for Shown {
     fn fmt<W: Write>(&self, f: &mut Formatter<W>) -> fmt::Result {
         match self.0 {
-            Share::Nothing => f.write_str("nothing"),
-            Share::NoPosition => f.write_str("no-position"),
+            Share::Nothing => f.write_str(" nothing"),
+            Share::NoPosition => f.write_str(" no-position"),
             Share::Order(l) => limit(l).fmt(f),
         }
     }
@@ -93,7 +104,7 @@ struct Classes {
 
 impl Display for Classes {
     fn fmt<W: Write>(&self, f: &mut Formatter<W>) -> fmt::Result {
-        write!(f, "class {}", self.mode)?;
+        write!(f, "class{}", Number(self.mode))?;
         for left in 0..15 {
             write!(f, " {}", classes::class_of(self.mode, left))?;
         }
@@ -113,7 +124,10 @@ fn grid_lines(out: &mut Output, grid: u32) {
         let cell = cells::cell(grid, class);
         let measure = cells::measure(cell);
         let aspect = cells::aspect(cell);
-        line(out, format_args!("cell {grid} {class} {measure} {aspect}"));
+        line(
+            out,
+            format_args!("cell{} {class} {measure} {aspect}", Number(grid)),
+        );
     }
 }
 
@@ -138,7 +152,10 @@ fn second_train() -> Train {
 fn share_line(out: &mut Output, measure: u32, l1: Train, l2: Train) {
     let share1 = Shown(shares::share_of_l1(measure, l1));
     let share2 = Shown(shares::share_of_l2(measure, l1, l2, MARGIN));
-    line(out, format_args!("share {measure} {share1} {share2}"));
+    line(
+        out,
+        format_args!("share{}{share1}{share2}", Number(measure)),
+    );
 }
 
 // What the measures 0 to 7 give: both trains with a position, L1 alone, L2 alone, neither.
@@ -162,9 +179,9 @@ fn end_behind(out: &mut Output, rear: u32) {
     match shares::share_of_l2(2, l1, l2, MARGIN) {
         Share::Order(l) => {
             let end = location(l2.with_order(Ticket(1), l).end());
-            line(out, format_args!("behind {rear} {end}"));
+            line(out, format_args!("behind{}{end}", Number(rear)));
         }
-        other => line(out, format_args!("behind {rear} {}", Shown(other))),
+        other => line(out, format_args!("behind{}{}", Number(rear), Shown(other))),
     }
 }
 
@@ -176,7 +193,7 @@ fn ends(out: &mut Output) {
     line(
         out,
         format_args!(
-            "ends {} {} {} {} {}",
+            "ends{}{}{}{}{}",
             location(train.end()),
             location(override_on.end()),
             location(bare.end()),
@@ -187,14 +204,14 @@ fn ends(out: &mut Output) {
 }
 
 fn yes_or_no(b: bool) -> &'static str {
-    if b { "yes" } else { "no" }
+    if b { " yes" } else { " no" }
 }
 
 fn order_line(out: &mut Output, train: Train) {
     let end = location(train.end());
     let ordered = yes_or_no(train.has_order(Ticket(3)));
     let room = yes_or_no(train.has_place(Ticket(9)));
-    line(out, format_args!("orders {end} {ordered} {room}"));
+    line(out, format_args!("orders{end}{ordered}{room}"));
 }
 
 // Four orders fill the places; the same other ticket replaces, and a cleared place is free again.
@@ -219,7 +236,7 @@ fn search_line(out: &mut Output, bytes: &[u8], loco: u32, ticket: u32) {
     let empty = found(register::find_empty(bytes, 5));
     line(
         out,
-        format_args!("find {loco} {ticket} {named} {of_loco} {empty}"),
+        format_args!("find{} {ticket}{named}{of_loco}{empty}", Number(loco)),
     );
 }
 
@@ -233,7 +250,7 @@ fn searches(out: &mut Output) {
     }
     let third = location(row::row_at(&bytes, 139).end());
     let second = location(row::row_at(&bytes, 72).end());
-    line(out, format_args!("row {third} {second}"));
+    line(out, format_args!("row{third}{second}"));
 }
 
 fn main() {

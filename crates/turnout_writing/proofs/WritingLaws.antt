@@ -1,52 +1,30 @@
 -- Laws of turnout writing.
-use mathlib.Core.Path.{◌≡◌, refl, sym, ap, ap₂, ◌∙◌}
+use mathlib.Core.Path.{◌≡◌, refl, sym, ap, ◌∙◌}
 use mathlib.Core.List.{List, [], ◌∷◌}
 use mathlib.Core.Bool.{Bool, true, false, not}
 use mathlib.Core.Logic.{⊎_elim}
-use Prim.Native.Nat.{ℕ, suc, ◌+◌, ◌-◌, ◌*◌, ◌%◌, ◌^◌, ◌≤◌, ◌<◌}
-use native.Mathlib.Nat.{add_assoc, mod-eq_of_lt}
+use Prim.Native.Nat.{ℕ, suc, ◌+◌, ◌-◌, ◌*◌, ◌%◌, ◌≤◌, ◌<◌}
 use native.Mathlib.Omega.{arith}
-use lib.ListN.{length, get_or, drop, length-drop}
-use lib.Pow.{mod-pow-add, high, low}
-use lib.Seq.{get_or-drop, drop-cons, drop-drop}
+use lib.ListN.{length, get_or, drop}
+use lib.Seq.{drop-drop}
 use Rattle.numbers.specs.Fields.{put}
 use Rattle.numbers.specs.Pieces.{total, pack}
 use Rattle.numbers.specs.Numbers.{number_at}
-use Rattle.numbers.proofs.FieldLaws.{Bytes, bytes-put, put-zero, lt_or_le}
+use Rattle.numbers.proofs.FieldLaws.{Bytes, lt_or_le}
 use Rattle.numbers.proofs.PieceLaws.{total-append}
-use Rattle.numbers.proofs.NumberLaws.{number-byte, number_pair}
-use Rattle.numbers.proofs.JoinedLaws.{joined, joined_step, pack_joined}
+use Rattle.numbers.proofs.NumberLaws.{number-byte}
+use Rattle.numbers.proofs.JoinedLaws.{joined, pack_joined}
 use Rattle.framing.specs.Refusals.{none, too_wide, not_allowed, refuse, or_else, unless_refused, untold}
 use Rattle.framing.proofs.RefusalLaws.{next}
 use Rattle.profiles.specs.Profiles.{widths_for, widths_of}
 use Rattle.profiles.specs.Writing.{widths_refusal, entry_refusal}
 use Rattle.profiles.proofs.WritingLaws.{only_last, only_widths, widths_none, widths_wide, widths_fit, first_byte}
-use Rattle.turnouts.specs.Turnouts.{turnout_profile, turnout_bytes, distances, absent, behind_speed, last_distance, last_release, is_allowed}
-use Rattle.turnouts.proofs.TurnoutLaws.{each_limit, each_kind, allowed_small}
+use Rattle.turnouts.specs.Turnouts.{turnout_profile, turnout_bytes, behind_speed, last_distance, last_release, is_allowed}
+use Rattle.turnouts.proofs.TurnoutLaws.{each_limit, allowed_small}
 
--- ---- the bytes of a turnout in a list
-
-module _ (list : List ℕ) (hs : Bytes list) (at : ℕ) where
-  abbrev pub turnout : List ℕ
-  turnout = drop at list
-
-  abbrev pub speed : ℕ
-  speed = get_or turnout 0 0
-
-  -- the number that two bytes of it are
-  abbrev pub pair : ℕ → ℕ
-  pair k = get_or turnout k 0 * 256 + get_or turnout (k + 1) 0
-
-  pub bytes : Bytes turnout
-  bytes k = omega (arith, get_or-drop at list k 0, hs (at + k))
-
-  pub speed_eq : number_at 1 list at ≡ speed
-  speed_eq = number-byte list at (hs at) ∙ sym (first_byte list at)
-
-  pub pair_eq : (k : ℕ) → number_at 2 list (at + k) ≡ pair k
-  pair_eq k =
-      number_pair list (at + k) hs
-      ∙ ap₂ (λ (a b : ℕ). a * 256 + b) (sym (get_or-drop at list k 0)) (ap (λ (n : ℕ). get_or list n 0) (add_assoc at k 1) ∙ sym (get_or-drop at list (k + 1) 0))
+-- the speed of a turnout that starts at a byte of a list
+pub speed_eq : (list : List ℕ) (at : ℕ) → Bytes list → number_at 1 list at ≡ get_or (drop at list) 0 0
+speed_eq list at hs = number-byte list at (hs at) ∙ sym (first_byte list at)
 
 -- ---- what is refused
 
@@ -103,57 +81,6 @@ module _ (l : List ℕ) (hs : Bytes l) where
   none-refused right h₁ h₃ =
       next _ _ (all_fit (get_or l 0 0) (allowed_small (get_or l 0 0) right) h₁ h₃) (sym (ap (λ (b : Bool). untold (refuse (not b) (not_allowed 0))) right))
 
--- ---- a turnout put
-
--- distance and release distance of a turnout's bytes as one number, each cut to its width
-abbrev pub distances_of : List ℕ → ℕ
-distances_of l = (get_or l 1 0 * 256 + get_or l 2 0) % 32768 * 4096 + (get_or l 3 0 * 256 + get_or l 4 0) % 4096
-
--- pieces without bits change nothing
-no_bits : (o : List ℕ) (p : ℕ) (vs : List ℕ) → pack o p absent vs ≡ o
-unfolding pack put
-no_bits o p [] = refl
-no_bits o p (a ∷ []) = refl
-no_bits o p (a ∷ b ∷ []) = refl
-no_bits o p (a ∷ b ∷ c ∷ []) = refl
-no_bits o p (a ∷ b ∷ c ∷ d ∷ vs) = refl
-
-neither : (o : List ℕ) (p : ℕ) (l : List ℕ)
-    → put o p (total absent) (distances_of l) ≡ pack o p absent (drop 1 l)
-unfolding total
-neither o p l = put-zero o p _ ∙ sym (no_bits o p (drop 1 l))
-
--- the low digits of a number of two bytes
-low-digits : (a b k : ℕ) → b < 256 → (a * 256 + b) % 2 ^ (k + 8) ≡ a % 2 ^ k * 256 + b
-low-digits a b k h = mod-pow-add (a * 256 + b) k 8 ∙ ap₂ (λ (x y : ℕ). x % 2 ^ k * 256 + y) (high a 8 h) (low a 8 h)
-
-both : (o : List ℕ) (p : ℕ) (l : List ℕ) → Bytes o → Bytes l → turnout_bytes ≤ length l
-    → put o p (total distances) (distances_of l) ≡ pack o p distances (drop 1 l)
-unfolding joined total
-both o p l ho hs long =
-    let far : (get_or l 1 0 * 256 + get_or l 2 0) % 32768 ≡ get_or l 1 0 % 128 * 256 + get_or l 2 0 = low-digits (get_or l 1 0) (get_or l 2 0) 7 (hs 2) in
-    let near : (get_or l 3 0 * 256 + get_or l 4 0) % 4096 ≡ get_or l 3 0 % 16 * 256 + get_or l 4 0 = low-digits (get_or l 3 0) (get_or l 4 0) 4 (hs 4) in
-    let value : joined distances (drop 1 l) ≡ distances_of l =
-    omega (arith, far, near, mod-eq_of_lt (hs 2), mod-eq_of_lt (hs 4), joined_step 7 (8 ∷ 4 ∷ 8 ∷ []) l 1 (omega arith), joined_step 8 (4 ∷ 8 ∷ []) l 2 (omega arith), joined_step 4 (8 ∷ []) l 3 (omega arith), joined_step 8 [] l 4 (omega arith)) in
-    ap (put o p 27) (sym value) ∙ sym (pack_joined o p distances (drop 1 l) ho (rw length-drop (omega arith)))
-
--- what stands behind the speed, put as one number of which no bit is put where the speed has none
-pub behind-put : (o : List ℕ) (p v : ℕ) (l : List ℕ) → Bytes o → Bytes l → turnout_bytes ≤ length l
-    → put o p (total (behind_speed v)) (distances_of l) ≡ pack o p (behind_speed v) (drop 1 l)
-behind-put o p v l ho hs long =
-    each_kind (λ (ws : List ℕ). put o p (total ws) (distances_of l) ≡ pack o p ws (drop 1 l))
-    (both o p l ho hs long) (neither o p l) v
-
--- so a turnout's pieces are put
-pub turnout-put : (o : List ℕ) (p v : ℕ) (l : List ℕ) → v ≡ get_or l 0 0 → Bytes o → Bytes l → turnout_bytes ≤ length l
-    → put (put o p 5 v) (p + 5) (total (behind_speed v)) (distances_of l)
-    ≡ pack o p (widths_for turnout_profile (get_or l 0 0)) l
-unfolding pack
-turnout-put o p v l ev ho hs long =
-    behind-put (put o p 5 v) (p + 5) v l (bytes-put o p 5 v ho) hs long
-    ∙ ap (λ (x : ℕ). pack (put o p 5 x) (p + 5) (behind_speed x) (drop 1 l)) ev
-    ∙ ap (λ (m : List ℕ). pack o p (5 ∷ behind_speed (get_or l 0 0)) m) (sym (drop-cons l 0 0 (omega arith)))
-
 -- ---- the bits of a list, a turn at a time
 
 pub bits_none : (list : List ℕ) → total (widths_of turnout_profile list 0) ≡ 0
@@ -173,8 +100,8 @@ bits-more list at m h =
 
 -- ---- type, length and count
 
-pub header_put_lem : (o : List ℕ) (size n : ℕ) → Bytes o → size < 128 → n ≤ 3 → put o 0 13 (2048 + size * 4 + n) ≡ pack o 0 (4 ∷ 7 ∷ 2 ∷ []) (4 ∷ size ∷ n ∷ [])
+pub header_put_lem : (o : List ℕ) (size n : ℕ) → Bytes o → put o 0 13 (2048 + size % 128 * 4 + n % 4) ≡ pack o 0 (4 ∷ 7 ∷ 2 ∷ []) (4 ∷ size ∷ n ∷ [])
 unfolding joined total
-header_put_lem o size n ho short few =
-    let e : 2048 + size * 4 + n ≡ joined (4 ∷ 7 ∷ 2 ∷ []) (4 ∷ size ∷ n ∷ []) = omega arith in
+header_put_lem o size n ho =
+    let e : 2048 + size % 128 * 4 + n % 4 ≡ joined (4 ∷ 7 ∷ 2 ∷ []) (4 ∷ size ∷ n ∷ []) = omega arith in
     ap (put o 0 13) e ∙ sym (pack_joined o 0 (4 ∷ 7 ∷ 2 ∷ []) (4 ∷ size ∷ n ∷ []) ho (omega arith))

@@ -1,1 +1,2 @@
 pub mod TurnoutLaws
+pub mod PutLaws

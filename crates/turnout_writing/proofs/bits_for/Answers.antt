@@ -17,7 +17,7 @@ loop-i-preserved c = let l = c.loop-i in
     let known : Bytes a.list.now = λ k. omega (arith, c.shared_slice_known-1.given k) in
     let less : a.n - (l.i + 1) ≡ a.n - l.i - 1 = omega arith in
     let behind : turnout_bytes * (l.i + 1) ≡ at + turnout_bytes = omega arith in
-    let e = c.bits_behind.ensures.0 ∙ ap (λ (v : ℕ). total (behind_speed v)) (c.byte_at-speed.ensures ∙ speed_eq a.list.now known at) in
+    let e = c.bits_behind.ensures.0 ∙ ap (λ (v : ℕ). total (behind_speed v)) (c.byte_at-speed.ensures ∙ speed_eq a.list.now at known) in
     let rest : left (drop (turnout_bytes * (l.i + 1)) a.list.now) (a.n - (l.i + 1)) ≡ left (drop (at + turnout_bytes) a.list.now) (a.n - l.i - 1) = λ j. left (drop (behind j) a.list.now) (less j) in (
       omega (arith, c.bits_behind.ensures.1),
       omega (arith, e, l.invariant.1, bits-more a.list.now at (a.n - l.i) (omega arith), rest),

@@ -6,7 +6,7 @@ use Rattle.profiles.specs.Profiles.{bytes_for}
 use Rattle.profiles.specs.Writing.{size_for}
 use Rattle.gates.specs.Gates.{gate_profile, distance_width, bits_with, header_put}
 use Rattle.gates.proofs.GateLaws.{bits_for_lem}
-use Rattle.gate_writing.proofs.GateEntry.begin.Goals as goal
+use Rattle.gate_writing.proofs.GateEntryGATE_BYTES.begin.Goals as goal
 
 pub returns : goal.returns
 unfolding header_put

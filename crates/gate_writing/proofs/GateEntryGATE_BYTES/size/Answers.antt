@@ -4,7 +4,7 @@ use native.Mathlib.Omega.{arith}
 use Rattle.profiles.specs.Profiles.{bytes_for}
 use Rattle.gates.specs.Gates.{distance_width}
 use Rattle.gates.proofs.GateLaws.{bits_for_lem}
-use Rattle.gate_writing.proofs.GateEntry.size.Goals as goal
+use Rattle.gate_writing.proofs.GateEntryGATE_BYTES.size.Goals as goal
 
 pub returns : goal.returns
 returns c = let a = c.args in
