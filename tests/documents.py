@@ -130,17 +130,9 @@ def samples(folder, suffixes):
             yield f"sample {name} lacks a file"
 
 
-def public_files(path, folder):
-    """A library's root file and those of the modules that it gives out, by `pub mod` or `pub use`. A module's own modules lie in a folder of its name."""
-    yield path
-    for name in re.findall(r"^pub (?:mod|use) (\w+)(?:;|::)", text(path), re.MULTILINE):
-        inner = folder / f"{name}.rt"
-        if inner.is_file():
-            yield from public_files(inner, folder / name)
-
-
 def public_functions(code):
-    """The name and the signature, clauses and all, of each public function, and of each one of a public trait."""
+    """The name and the signature, clauses and all, of each `pub fn`, and of each function of a public trait."""
+    code = re.sub(r"//.*", "", code)
     traits = [match.span() for match in re.finditer(r"^pub trait .*?^}", code, re.MULTILINE | re.DOTALL)]
     for match in re.finditer(r'^( *)(pub )?(?:const )?(?:extern "C" )?fn (\w+).*?(?:;| \{|\n\1\{)$', code, re.MULTILINE | re.DOTALL):
         if match[2] or any(start < match.start() < end for start, end in traits):
@@ -148,9 +140,9 @@ def public_functions(code):
 
 
 def asked():
-    """No public function of a library has a `requires`: PROMISES.md says so of demand 1."""
+    """No public function of a library has a `requires`: PROMISES.md says so of demand 1. One that its crate alone calls is not `pub`."""
     for library in sorted((ROOT / "crates").glob("*/src/lib.rt")):
-        for path in public_files(library, library.parent):
+        for path in sorted(library.parent.rglob("*.rt")):
             for name, signature in public_functions(text(path)):
                 if re.search(r"\brequires\b", signature):
                     yield f"{path.relative_to(ROOT)}: `{name}` is public and has a `requires`; PROMISES.md says that no public function has one"

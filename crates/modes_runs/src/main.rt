@@ -23,8 +23,8 @@ impl Write for Output {
     }
 }
 
-// A number behind a line's first word, and the space between them. As `word {n}` the word and the space would be handed over in one piece. An output with
-// little room takes a piece whole or not at all, so small ones get more of a line out.
+// A number behind a line's first word, and the space between them. As `word {n}` the word and the space would be handed over in one piece. A nearly full
+// pipe that does not block takes a piece whole or not at all, so small ones get more of a line out.
 #[derive(Drop)]
 struct Number(u32);
 

@@ -34,8 +34,8 @@ fn line(out: &mut Output, shown: impl Display + Drop) {
     let _ = writeln!(out, "{shown}");
 }
 
-// A number behind a line's first word, and the space between them. As `word {n}` the word and the space would be handed over in one piece. An output with
-// little room takes a piece whole or not at all, so small ones get more of a line out.
+// A number behind a line's first word, and the space between them. As `word {n}` the word and the space would be handed over in one piece. A nearly full
+// pipe that does not block takes a piece whole or not at all, so small ones get more of a line out.
 #[derive(Drop)]
 struct Number(u32);
 
