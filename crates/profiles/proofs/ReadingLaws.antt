@@ -12,10 +12,9 @@ use Rattle.numbers.specs.Fields.{field}
 use Rattle.numbers.proofs.FieldLaws.{field-zero}
 use Rattle.numbers.proofs.PieceLaws.{length-unpack}
 use Rattle.numbers.proofs.WithinLaws.{field_within}
-use Rattle.framing.specs.Refusals.{or_else, unless_refused}
 use Rattle.framing.specs.Refusals.{Refusal}
 use Rattle.framing.specs.Framing.{length_of}
-use Rattle.framing.proofs.RefusalLaws.{same_number, or_else-first, or_else_then, next, ends, refuse-none, unless-none, unless-some}
+use Rattle.framing.proofs.RefusalLaws.{same_number, or_else-first, or_else_then, refuse-none, unless-none, unless-some}
 use Rattle.framing.proofs.FramingLaws.{Headed, headed}
 use Rattle.profiles.specs.Profiles.{Profile, count_of, first_at, bytes_for, padding_for, widths_at, rules_refusal}
 use Rattle.profiles.specs.Reading.{entries_of, bits_of, shape_refusal, end_refusal, read_refusal, read_with, refused_for, read_answer, read_into}

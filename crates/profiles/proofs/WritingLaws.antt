@@ -4,7 +4,7 @@ use mathlib.Core.List.{List, [], ◌∷◌, ◌++◌}
 use mathlib.Core.Bool.{Bool}
 use mathlib.Core.Logic.{⊎_elim, ◌⊎◌, inl, inr}
 use Prim.Native.Nat.{ℕ, zero, suc, ◌+◌, ◌-◌, ◌*◌, ◌%◌, ◌^◌, ◌≤◌, ◌<◌}
-use native.Mathlib.Nat.{add-zero, mod-add-div}
+use native.Mathlib.Nat.{add-zero, mul-le-mul_left, mod-add-div}
 use native.Mathlib.Omega.{arith}
 use native.Mathlib.Numerals.{add-one, one-add}
 use borrow.Author.Tests.{lt-leb, le-leb, ltb-false}
@@ -102,6 +102,12 @@ unfolding widths_refusal
 widths_own [] list more h = refl
 widths_own (w ∷ ws) [] more h = absurd (omega arith)
 widths_own (w ∷ ws) (v ∷ list) more h = ap (or_else (refuse (leb (2 ^ w) v) too_wide)) (widths_own ws list more (omega arith))
+
+-- a list that has m entries has each of them
+pub entry_there : (n i m len : ℕ) → i < m → n * m ≤ len → n * (i + 1) ≤ len
+entry_there n i m len h all =
+    let next : i + 1 ≤ m = omega arith in
+    omega (arith, mul-le-mul_left n next)
 
 -- what stands behind entry i in a list counts for nothing: neither where the entry is judged, nor where it is put
 module _ (f : Profile) (reg : Regular f) (list : List ℕ) (n i : ℕ) (is : n ≡ f.pieces) (there : n * (i + 1) ≤ length list) (entry : List ℕ) (own : entry ≡ take n (drop (n * i) list)) where

@@ -53,7 +53,7 @@ pub trait Entry<const BYTES: usize> {
 
     ghost first_is: { FIRST_AT ≡ first_at profile };
 
-    // So a count fits a byte, and the bit behind the last entry a number.
+    // So a count fits a byte, and no place of an entry overflows.
     ghost few_entries: { MOST ≤ 31 };
 
     ghost starts_low: { FIRST_AT ≤ 16 };

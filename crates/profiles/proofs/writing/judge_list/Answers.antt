@@ -1,10 +1,9 @@
 -- `profiles::writing::judge_list` meets its contract: a turn of the loop stops at an entry that is refused, or hands on.
-use Rattle.std.proofs.Common.{◌≡◌, ◌+◌, ◌-◌, ◌*◌, ◌≤◌, length, drop, refl, sym, ap, ◌∙◌, arith}
-use Rattle.std.proofs.Math.Nat.{mul-le-mul_left}
+use Rattle.std.proofs.Common.{◌≡◌, ◌+◌, ◌-◌, ◌*◌, length, drop, refl, sym, ap, ◌∙◌, arith}
 use Rattle.framing.specs.Refusals.{none}
 use Rattle.framing.proofs.ToldLaws.{ground-some, passed}
 use Rattle.profiles.specs.Writing.{list_refusal}
-use Rattle.profiles.proofs.WritingLaws.{entry_own, list-none, list-stop, list_go}
+use Rattle.profiles.proofs.WritingLaws.{entry_there, entry_own, list-none, list-stop, list_go}
 use Rattle.profiles.proofs.writing.judge_list.Goals as goal
 
 pub returns-in_err-judge : goal.returns-in_err-judge
@@ -12,8 +11,7 @@ returns-in_err-judge g c =
     let e = g.E.Entry in
     let l = c.loop-i in
     let a = c.args in
-    let one_left : l.i + 1 ≤ a.n = omega arith in
-    let there : g.row.BYTES * (l.i + 1) ≤ length a.list.now = omega (arith, mul-le-mul_left g.row.BYTES one_left) in
+    let there = entry_there g.row.BYTES l.i a.n (length a.list.now) (omega arith) (omega arith) in
     let judged = c.in_err-judge.ensures ∙ entry_own e.profile g.met.E.Entry.regular a.list.now g.row.BYTES l.i g.met.E.Entry.bytes_are there _ c.entry_at.ensures in
     passed _ _ c.from_residual.ensures.1
     ∙ list-stop e.profile g.met.E.Entry.regular a.list.now (g.row.BYTES * l.i) (a.n - l.i) _ (omega arith) judged (ground-some _)
@@ -24,8 +22,7 @@ loop-i-preserved g c =
     let e = g.E.Entry in
     let l = c.loop-i in
     let a = c.args in
-    let one_left : l.i + 1 ≤ a.n = omega arith in
-    let there : g.row.BYTES * (l.i + 1) ≤ length a.list.now = omega (arith, mul-le-mul_left g.row.BYTES one_left) in
+    let there = entry_there g.row.BYTES l.i a.n (length a.list.now) (omega arith) (omega arith) in
     let judged = c.in_ok-judge.ensures ∙ entry_own e.profile g.met.E.Entry.regular a.list.now g.row.BYTES l.i g.met.E.Entry.bytes_are there _ c.entry_at.ensures in
     let behind : g.row.BYTES * (l.i + 1) ≡ g.row.BYTES * l.i + e.profile.pieces = omega (arith, g.met.E.Entry.bytes_are) in
     let less : a.n - (l.i + 1) ≡ a.n - l.i - 1 = omega arith in

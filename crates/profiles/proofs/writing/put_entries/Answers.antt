@@ -1,11 +1,10 @@
 -- `profiles::writing::put_entries` meets its contract: what a turn of the loop puts is no more left to put.
-use Rattle.std.proofs.Common.{◌≡◌, ◌+◌, ◌-◌, ◌*◌, ◌≤◌, List, ℕ, length, get_or, drop, refl, sym, ap, ◌∙◌, arith}
-use Rattle.std.proofs.Math.Nat.{mul-le-mul_left}
+use Rattle.std.proofs.Common.{◌≡◌, ◌+◌, ◌-◌, ◌*◌, List, ℕ, length, get_or, drop, refl, sym, ap, ◌∙◌, arith}
 use Rattle.numbers.specs.Pieces.{pack}
 use Rattle.numbers.proofs.PieceLaws.{pack-zero}
 use Rattle.profiles.specs.Profiles.{widths_of}
 use Rattle.profiles.proofs.ProfileLaws.{of_none}
-use Rattle.profiles.proofs.WritingLaws.{first_own, put_own, entries_step}
+use Rattle.profiles.proofs.WritingLaws.{entry_there, first_own, put_own, entries_step}
 use Rattle.profiles.proofs.writing.put_entries.Invariants.{putting}
 use Rattle.profiles.proofs.writing.put_entries.Goals as goal
 
@@ -27,8 +26,7 @@ loop-i-preserved g c =
     let l = c.loop-i in
     let a = c.args in
     let made = c.put-p in
-    let one_left : l.i + 1 ≤ a.n = omega arith in
-    let there : g.row.BYTES * (l.i + 1) ≤ length a.list.now = omega (arith, mul-le-mul_left g.row.BYTES one_left) in
+    let there = entry_there g.row.BYTES l.i a.n (length a.list.now) (omega arith) (omega arith) in
     let entry : List ℕ = c.entry_at.result.now in
     let put = made.ensures.out_after ∙ put_own e.profile g.met.E.Entry.regular a.list.now g.row.BYTES l.i g.met.E.Entry.bytes_are there entry c.entry_at.ensures l.out l.p in
     let first = first_own e.profile g.met.E.Entry.regular a.list.now g.row.BYTES l.i g.met.E.Entry.bytes_are there entry c.entry_at.ensures in
