@@ -2,9 +2,10 @@
 use mathlib.Core.Path.{◌≡◌, sym, ap, ap₂, ◌∙◌}
 use mathlib.Core.List.{List, [], ◌∷◌}
 use Prim.Native.Nat.{ℕ, ◌+◌, ◌-◌, ◌*◌, ◌%◌, ◌≤◌}
-use native.Mathlib.Nat.{mod-eq_of_lt}
+use native.Mathlib.Nat.{add_assoc, mod-eq_of_lt}
 use native.Mathlib.Omega.{arith}
 use lib.ListN.{length, get_or, drop}
+use lib.Seq.{get_or-drop}
 use Rattle.numbers.specs.Fields.{put}
 use Rattle.numbers.specs.Pieces.{total, pack}
 use Rattle.numbers.specs.Numbers.{put_number}
@@ -15,6 +16,11 @@ use Rattle.gates.specs.Gates.{gate_type, gate_bytes, gate_widths, gate_bits, beh
 -- the number that two bytes of a list are
 abbrev pub pair_of : List ℕ → ℕ → ℕ → ℕ
 pair_of list i j = get_or list i 0 * 256 + get_or list j 0
+
+-- two bytes side by side are the same number from byte i on, where the first of them is byte k
+pub pair_drop : (list : List ℕ) (i k : ℕ) → pair_of list (i + k) (i + k + 1) ≡ pair_of (drop i list) k (k + 1)
+pair_drop list i k =
+    ap₂ (λ (a b : ℕ). a * 256 + b) (sym (get_or-drop i list k 0)) (ap (λ (n : ℕ). get_or list n 0) (add_assoc i k 1) ∙ sym (get_or-drop i list (k + 1) 0))
 
 -- the number of a gate with this distance, number, suffix, manning, class, whistling and whistling type
 abbrev pub gate_digits : ℕ → ℕ → ℕ → ℕ → ℕ → ℕ → ℕ → ℕ

@@ -28,7 +28,7 @@ module _ (l : List ℕ) (hs : Bytes l) (long : turnout_bytes ≤ length l) where
   abbrev pub speed : ℕ
   speed = get_or l 0 0
 
-  both : joined distances (drop 1 l) ≡ distances_of l
+  pub both : joined distances (drop 1 l) ≡ distances_of l
   unfolding joined total
   both =
       let far : (get_or l 1 0 * 256 + get_or l 2 0) % 32768 ≡ get_or l 1 0 % 128 * 256 + get_or l 2 0 = low-digits (get_or l 1 0) (get_or l 2 0) 7 (hs 2) in
