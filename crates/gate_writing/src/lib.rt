@@ -12,8 +12,8 @@ ghost use Rattle.gates.proofs.GateLaws.{regular};
 use framing::refusals;
 use framing::refusals::Refusal;
 use gates::GATE_BYTES;
-use profiles::writing::Entry;
-use profiles::{EntriesWritten, writing};
+use profiles::arrays::Entry;
+use profiles::{EntriesWritten, arrays};
 
 // The highest that a distance's high byte may be: it has what the width has above 8 bits.
 const LAST_HIGH: u32 = (1 << (gates::DISTANCE_WIDTH - 8)) - 1;
@@ -117,5 +117,5 @@ pub fn write_gates(list: &[u8], out: &mut [u8]) -> EntriesWritten
     ensures value { result ≡ write_answer gate_profile most_gates list.now out.old }
     ensures out_after { out.new ≡ write_into gate_profile most_gates list.now out.old }
 {
-    writing::write::<GATE_BYTES, Gate>(list, out)
+    arrays::write::<GATE_BYTES, Gate>(list, out)
 }

@@ -2,6 +2,8 @@
 // entries are; `bits` is the bits of a sub-packet before its padding.
 #![tactic(auto)]
 
+pub mod arrays;
+pub mod named;
 pub mod writing;
 
 ghost use Rattle.std.specs.Prelude.{◌≡◌};

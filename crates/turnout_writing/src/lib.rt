@@ -11,9 +11,12 @@ ghost use Rattle.turnouts.proofs.TurnoutLaws.{regular};
 
 use framing::refusals;
 use framing::refusals::Refusal;
-use profiles::writing::Entry;
-use profiles::{EntriesWritten, writing};
+use profiles::arrays::Entry;
+use profiles::{EntriesWritten, arrays};
 use turnouts::TURNOUT_BYTES;
+
+#[cfg(test)]
+mod tests;
 
 // What the type and one byte of the length weigh in the number that the header is. The count is the lowest, and weighs 1.
 const TYPE_WEIGHT: u32 = 512;
@@ -122,5 +125,5 @@ pub fn write_turnouts(list: &[u8], out: &mut [u8]) -> EntriesWritten
     ensures value { result ≡ write_answer turnout_profile most_turnouts list.now out.old }
     ensures out_after { out.new ≡ write_into turnout_profile most_turnouts list.now out.old }
 {
-    writing::write::<TURNOUT_BYTES, Turnout>(list, out)
+    arrays::write::<TURNOUT_BYTES, Turnout>(list, out)
 }

@@ -6,4 +6,4 @@ use Rattle.profiles.proofs.writing.judge_list.Given as goal
 abbrev pub invariant-loop-i : goal.invariant-loop-i
 invariant-loop-i g l =
     let e = g.E.Entry in
-    list_refusal e.profile (drop (g.row.BYTES * l.i) l.list) (l.n - l.i) ≡ list_refusal e.profile l.list l.n
+    list_refusal e.profile (drop (e.BYTES * l.i) l.list) (l.n - l.i) ≡ list_refusal e.profile l.list l.n

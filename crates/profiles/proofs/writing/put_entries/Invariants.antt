@@ -13,4 +13,4 @@ invariant-loop-i g l =
     let e = g.E.Entry in
     (l.p ≤ 16 + 64 * l.i)
     × (length l.out ≡ length l.initial.out)
-    × (putting e.profile l.out l.p (drop (g.row.BYTES * l.i) l.list) (l.n - l.i) ≡ putting e.profile l.initial.out (first_at e.profile) l.list l.n)
+    × (putting e.profile l.out l.p (drop (e.BYTES * l.i) l.list) (l.n - l.i) ≡ putting e.profile l.initial.out (first_at e.profile) l.list l.n)

@@ -13,10 +13,11 @@ put_packet-bytes-requires g c =
     let e = g.E.Entry in
     let list = c.args.list.now in
     let taken = listed e.profile e.MOST list (length c.args.out.now) (sym (same_number c.in-Ok.ensures)) in
-    let n : length list / g.row.BYTES ≡ entries_in e.profile list = ap (λ (b : ℕ). length list / b) g.met.E.Entry.bytes_are in
+    let bytes = c.BYTES.ensures ∙ g.met.E.Entry.bytes_are in
+    let n : length list / c.BYTES.result ≡ entries_in e.profile list = ap (λ (b : ℕ). length list / b) bytes in
     record {
       few = omega (arith, n, taken.few);
-      whole = taken.whole ∙ (λ j. sym g.met.E.Entry.bytes_are j * (length list / sym g.met.E.Entry.bytes_are j));
+      whole = taken.whole ∙ (λ j. sym g.met.E.Entry.bytes_are j * (length list / sym bytes j));
     }
 
 pub returns-in-Ok : goal.returns-in-Ok
@@ -25,7 +26,7 @@ returns-in-Ok g c =
     let a = c.args in
     let list = a.list.now in
     let made = c.put_packet-bytes in
-    let n : length list / g.row.BYTES ≡ entries_in e.profile list = ap (λ (b : ℕ). length list / b) g.met.E.Entry.bytes_are in
+    let n : length list / c.BYTES.result ≡ entries_in e.profile list = ap (λ (b : ℕ). length list / b) (c.BYTES.ensures ∙ g.met.E.Entry.bytes_are) in
     let both = write_accepted e.profile e.MOST list a.out.now none c.in-Ok.ensures refl made.result made.new.out (made.ensures.value ∙ ap (size_for e.profile list) n) made.ensures.out_after in
     record {
       value = (λ j. written_with (n j) made.result) ∙ both.0;
