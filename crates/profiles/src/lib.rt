@@ -3,7 +3,7 @@
 #![tactic(auto)]
 
 pub mod arrays;
-pub mod named;
+pub mod in_list;
 pub mod writing;
 
 ghost use Rattle.std.specs.Prelude.{◌≡◌};

@@ -1,5 +1,5 @@
-// Any profile written, as in `arrays`, where an entry is named by the byte of a list at which it starts, and not handed over by itself. How many bytes an
-// entry has is then known by its type alone.
+// Any profile written, as in `arrays`; but here an entry is named by the byte of a list at which it starts, and the type of the entries says by a constant
+// how many bytes one has.
 ghost use Rattle.std.specs.Prelude.{◌≡◌, ℕ, ◌+◌, ◌*◌, ◌≤◌, ◌<◌, length, get_or, drop};
 ghost use Rattle.numbers.specs.Pieces.{total, pack};
 ghost use Rattle.framing.specs.Told.{told};
@@ -13,8 +13,9 @@ use crate::EntriesWritten;
 use framing::refusals;
 use framing::refusals::Refusal;
 
-// The entries of a profile, by a type of their own, of which no value is needed. An entry is named by the byte of a list outside at which it starts. Where
-// the list does not have what is named, or no sub-packet does, nothing is judged, counted or put.
+// The entries of a profile, by a type of their own, of which no value is needed. An entry is named by the byte of a list outside at which it starts. An
+// entry that the list does not have, more entries than a sub-packet has, and a bit behind 2000 are no error: there `judge` refuses nothing, `size` and
+// `begin` answer 0, `put` answers its bit, and no byte changes.
 pub trait Entry {
     // The bytes of an entry outside a sub-packet.
     const BYTES: usize;

@@ -1,9 +1,9 @@
--- `profiles::named::Named::judge` meets its contract: an entry is judged by its own bytes.
+-- `profiles::in_list::InList::judge` meets its contract: an entry is judged by its own bytes.
 use Rattle.std.proofs.Common.{◌≡◌, ◌+◌, ◌*◌, ◌≤◌, length, take, drop, sym, ◌∙◌, arith}
 use Rattle.std.proofs.lemmas.List.{length-drop}
 use Rattle.profiles.specs.Writing.{entry_refusal}
 use Rattle.profiles.proofs.WritingLaws.{entry_own}
-use Rattle.profiles.proofs.named.NamedEntry.judge.Goals as goal
+use Rattle.profiles.proofs.in_list.InListEntry.judge.Goals as goal
 
 pub returns-clause-value : goal.returns-clause-value
 returns-clause-value g c whole =

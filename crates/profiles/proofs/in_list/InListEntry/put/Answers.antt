@@ -1,10 +1,10 @@
--- `profiles::named::Named::put` meets its contract: an entry is put by its own bytes.
+-- `profiles::in_list::InList::put` meets its contract: an entry is put by its own bytes.
 use Rattle.std.proofs.Common.{◌≡◌, ◌+◌, ◌*◌, ◌≤◌, length, get_or, take, drop, sym, ◌∙◌, arith}
 use Rattle.std.proofs.lemmas.List.{length-drop}
 use Rattle.numbers.specs.Pieces.{pack}
 use Rattle.profiles.specs.Profiles.{widths_for}
 use Rattle.profiles.proofs.WritingLaws.{first_own, put_own}
-use Rattle.profiles.proofs.named.NamedEntry.put.Goals as goal
+use Rattle.profiles.proofs.in_list.InListEntry.put.Goals as goal
 
 pub returns-clause-out_after : goal.returns-clause-out_after
 returns-clause-out_after g c low whole =

@@ -1,4 +1,4 @@
-// What `arrays` writes, written by `writing` too: each entry is taken out of the list at the byte by which it is named.
+// What `arrays` writes, written by `writing` too: each entry is taken out of the list where it starts.
 ghost use Rattle.std.specs.Prelude.{true, false, ◌≡◌, ◌+◌, ◌*◌, ◌≤◌, ◌<◌, length, take, drop};
 
 use crate::arrays;
@@ -9,7 +9,7 @@ use std::marker::PhantomData;
 // The last bit from which an entry is put. No sub-packet has as many.
 const LAST_PLACE: usize = 2000;
 
-// Does a list end before its first n entries do?
+// Does a list end before its first n entries do? The type E says that an entry has bytes.
 fn is_short<const BYTES: usize, E: arrays::Entry<BYTES>>(list: &[u8], n: usize) -> bool
     ensures yes { result ≡ true → length list.now < BYTES * n }
     ensures no { result ≡ false → BYTES * n ≤ length list.now }
@@ -25,6 +25,7 @@ fn ends_within<const BYTES: usize>(list: &[u8], at: usize) -> bool
     list.len() < at || list.len() - at < BYTES
 }
 
+// The entry at a byte of a list that has all of it.
 fn entry_at<const BYTES: usize>(list: &[u8], at: usize) -> &[u8; BYTES]
     requires { at + BYTES ≤ length list.now }
     ensures { result.now ≡ take BYTES (drop at list.now) }
@@ -32,11 +33,12 @@ fn entry_at<const BYTES: usize>(list: &[u8], at: usize) -> &[u8; BYTES]
     list[at..][..BYTES].first_chunk().unwrap()
 }
 
-pub struct Named<const BYTES: usize, E> {
+// The entries of E, each named by the byte of a list at which it starts.
+pub struct InList<const BYTES: usize, E> {
     of: PhantomData<E>,
 }
 
-impl<const BYTES: usize, E: arrays::Entry<BYTES>> Entry for Named<BYTES, E> {
+impl<const BYTES: usize, E: arrays::Entry<BYTES>> Entry for InList<BYTES, E> {
     const BYTES: usize = BYTES;
 
     const MOST: usize = E::MOST;

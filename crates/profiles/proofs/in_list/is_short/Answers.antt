@@ -1,9 +1,9 @@
--- `profiles::named::is_short` meets its contract: a list has as many entries as their bytes go into it.
+-- `profiles::in_list::is_short` meets its contract: a list has as many entries as their bytes go into it.
 use Rattle.std.proofs.Common.{zero, ◌+◌, ◌/◌, ◌≤◌, ◌<◌, length, arith}
 use borrow.Author.Tests.{ltb-true, ltb-false}
 use Rattle.std.proofs.Math.Nat.{lt-mul-div-succ, mul-div-le, mul-le-mul_left}
 use Rattle.profiles.proofs.ProfileLaws.{some}
-use Rattle.profiles.proofs.named.is_short.Goals as goal
+use Rattle.profiles.proofs.in_list.is_short.Goals as goal
 
 pub returns-clause-yes : goal.returns-clause-yes
 returns-clause-yes g c e =
