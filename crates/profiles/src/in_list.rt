@@ -6,10 +6,10 @@ use crate::writing::Entry;
 use framing::refusals::Refusal;
 use std::marker::PhantomData;
 
-// The last bit from which an entry is put. No sub-packet has as many.
+// The last bit from which an entry is put. No sub-packet has so many bits.
 const LAST_PLACE: usize = 2000;
 
-// Does a list end before its first n entries do? The type E says that an entry has bytes.
+// Does a list end before its first n entries do? E's laws say that an entry has a byte at least, so nothing is divided by 0.
 fn is_short<const BYTES: usize, E: arrays::Entry<BYTES>>(list: &[u8], n: usize) -> bool
     ensures yes { result ≡ true → length list.now < BYTES * n }
     ensures no { result ≡ false → BYTES * n ≤ length list.now }
@@ -17,7 +17,7 @@ fn is_short<const BYTES: usize, E: arrays::Entry<BYTES>>(list: &[u8], n: usize) 
     list.len() / BYTES < n
 }
 
-// Does it end before the entry at one of its bytes does?
+// Does it end before an entry from byte `at` on would?
 fn ends_within<const BYTES: usize>(list: &[u8], at: usize) -> bool
     ensures yes { result ≡ true → length list.now < at + BYTES }
     ensures no { result ≡ false → at + BYTES ≤ length list.now }

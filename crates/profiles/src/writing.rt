@@ -14,8 +14,8 @@ use framing::refusals;
 use framing::refusals::Refusal;
 
 // The entries of a profile, by a type of their own, of which no value is needed. An entry is named by the byte of a list outside at which it starts. An
-// entry that the list does not have, more entries than a sub-packet has, and a bit behind 2000 are no error: there `judge` refuses nothing, `size` and
-// `begin` answer 0, `put` answers its bit, and no byte changes.
+// entry that the list does not have, more entries than the list has or a sub-packet may have, and a bit behind 2000 are no error: there `judge` refuses
+// nothing, `size` and `begin` answer 0, `put` answers its bit, and no byte changes.
 pub trait Entry {
     // The bytes of an entry outside a sub-packet.
     const BYTES: usize;

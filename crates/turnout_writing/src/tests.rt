@@ -25,6 +25,7 @@ fn writes_and_refuses(rt: HostRuntime) {
         (&RESERVED[..], 7, 4, 0, 0, [170; 7]),
     ] {
         let mut out = [170; 7];
+        // `min`, since the check does not know what stands in the table
         let room: usize = room;
         let written = writing::write::<Turnouts>(list, &mut out[..room.min(7)]);
         assert_eq!(rt; written.answer, answer);
